@@ -1,0 +1,87 @@
+//! Names of operators, ports, variables, inputs and outputs.
+
+ghost use Rattle.std.specs.Prelude.{◌≡◌, ◌&&◌, length};
+ghost use Rattle.std.specs.Str.{bytes_eq};
+ghost use Rattle.std.specs.List.{list_all};
+ghost use Rattle.pld_base.specs.Names.{name_in, is_letter as is_letter_of, is_letter_or_digit as is_letter_or_digit_of, is_identifier as is_identifier_of};
+
+use std::marker::Model;
+
+/// An identifier of 1 to 32 bytes: a letter or `_`, then letters, digits and `_`.
+/// Contracts see it as the list of its bytes.
+#[derive(Clone, Copy, PartialEq, Eq, Debug)]
+pub struct Name {
+    bytes: [u8; 32],
+    len: usize,
+}
+
+impl Model for Name {
+    ghost use Rattle.std.specs.Prelude.{◌≡◌, ◌≤◌, ℕ, List, ◌++◌, ◌-◌, length, take, drop, replicate, true};
+    ghost use Rattle.std.specs.Coded.{coded_list, coded_ℕ};
+
+    ghost Value = { List ℕ };
+
+    ghost coded = { coded_list coded_ℕ };
+
+    ghost use Rattle.pld_base.specs.Names.{padded, padded_gives_back, is_identifier};
+
+    ghost view = { λ n. take n.len n.bytes };
+
+    ghost invariant = { λ n. (n.len ≤ 32) × (length n.bytes ≡ 32) × (drop n.len n.bytes ≡ replicate (32 - n.len) 0) × (is_identifier (take n.len n.bytes) ≡ true) };
+
+    ghost inverse = { λ l. record { bytes = padded l; len = length l } };
+
+    ghost inverse_ok = { λ a h. padded_gives_back a h.0 h.1 h.2 };
+}
+
+fn is_letter(b: u8) -> bool
+    ensures { result ≡ is_letter_of b }
+{
+    b.is_ascii_alphabetic() || b == b'_'
+}
+
+fn is_letter_or_digit(b: u8) -> bool
+    ensures { result ≡ is_letter_or_digit_of b }
+{
+    b.is_ascii_alphanumeric() || b == b'_'
+}
+
+fn is_identifier(text: &[u8]) -> bool
+    ensures { result ≡ is_identifier_of text.now }
+{
+    match text.split_first() {
+        None => false,
+        Some((first, rest)) => is_letter(*first) && rest.iter().all(|b| is_letter_or_digit(*b)),
+    }
+}
+
+impl Name {
+    /// The name with this text. None exactly where the text is no identifier, or has more than 32 bytes.
+    pub fn of(text: &[u8]) -> Option<Name>
+        ensures { result ≡ name_in text.now }
+    {
+        if text.len() > 32 || !is_identifier(text) {
+            return None;
+        }
+        let mut bytes = [0; 32];
+        bytes[..text.len()].copy_from_slice(text);
+        Some(Name {
+            bytes,
+            len: text.len(),
+        })
+    }
+
+    /// The text.
+    pub fn as_bytes(&self) -> &[u8]
+        ensures { result.now ≡ self.now }
+    {
+        &self.bytes[..self.len]
+    }
+
+    /// Whether both are the same text.
+    pub fn is_same(&self, other: &Name) -> bool
+        ensures { result ≡ bytes_eq self.now other.now }
+    {
+        self.bytes[..self.len] == other.bytes[..other.len]
+    }
+}
