@@ -1,6 +1,6 @@
 //! Names of operators, ports, variables, inputs and outputs.
 
-ghost use Rattle.std.specs.Prelude.{◌≡◌, ◌&&◌, length};
+ghost use Rattle.std.specs.Prelude.{◌≡◌, ◌≤◌, ◌&&◌, length, true};
 ghost use Rattle.std.specs.Str.{bytes_eq};
 ghost use Rattle.std.specs.List.{list_all};
 ghost use Rattle.pld_base.specs.Names.{name_in, is_letter as is_letter_of, is_letter_or_digit as is_letter_or_digit_of, is_identifier as is_identifier_of};
@@ -46,16 +46,36 @@ fn is_letter_or_digit(b: u8) -> bool
     b.is_ascii_alphanumeric() || b == b'_'
 }
 
+fn are_letters_or_digits(text: &[u8]) -> bool
+    ensures { result ≡ list_all is_letter_or_digit_of text.now }
+{
+    text.iter().all(|b| is_letter_or_digit(*b))
+}
+
 fn is_identifier(text: &[u8]) -> bool
     ensures { result ≡ is_identifier_of text.now }
 {
-    match text.split_first() {
-        None => false,
-        Some((first, rest)) => is_letter(*first) && rest.iter().all(|b| is_letter_or_digit(*b)),
+    match text {
+        [] => false,
+        [first, rest @ ..] => is_letter(*first) && are_letters_or_digits(rest),
     }
 }
 
 impl Name {
+    /// The name with this text, in a field of 32 bytes.
+    fn padded(text: &[u8]) -> Name
+        requires within { length text.now ≤ 32 }
+        requires identifier { is_identifier_of text.now ≡ true }
+        ensures { result ≡ text.now }
+    {
+        let mut bytes = [0; 32];
+        bytes[..text.len()].copy_from_slice(text);
+        Name {
+            bytes,
+            len: text.len(),
+        }
+    }
+
     /// The name with this text. None exactly where the text is no identifier, or has more than 32 bytes.
     pub fn of(text: &[u8]) -> Option<Name>
         ensures { result ≡ name_in text.now }
@@ -63,12 +83,7 @@ impl Name {
         if text.len() > 32 || !is_identifier(text) {
             return None;
         }
-        let mut bytes = [0; 32];
-        bytes[..text.len()].copy_from_slice(text);
-        Some(Name {
-            bytes,
-            len: text.len(),
-        })
+        Some(Name::padded(text))
     }
 
     /// The text.

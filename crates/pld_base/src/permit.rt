@@ -42,7 +42,7 @@ impl Permits {
         ensures err { OnErr result (self.new ≡ self.old) }
     {
         let mut permits = Vec::with_capacity(alloc, k)?;
-        for _ in 0..k {
+        for made in 0..k {
             permits.push(Permit { spent: () })?;
         }
         self.issued += k as u64;
