@@ -1,0 +1,4 @@
+pub mod Nodes
+pub mod Program
+pub mod Resolve
+pub mod Straight
