@@ -6,7 +6,7 @@ use Rattle.pld_base.specs.Lists.{port}
 use Rattle.pld_base.specs.Pages.{Standing, Going, Ended as HasEnded, Trapped as HasTrapped, Waits}
 use Rattle.rv_core.specs.Machine.{Step, Went, AtRead, AtWrite, Ended, Trapped, soft_step}
 use Rattle.rv_core.specs.Page.{Page, move, standing, page_on}
-use Rattle.rv_back.specs.Image.{SoftForm}
+use Rattle.rv_back.specs.Form.{SoftForm}
 use Rattle.feed_run.specs.declared.run.RunEnd.{RunEnd}
 use Rattle.feed_run.specs.declared.run.RunEnd.TheVariants.{Done, Stalled, Spent}
 
@@ -41,9 +41,9 @@ unfoldable pub steps_among : SoftForm → List ℕ → ℕ → ℕ
 steps_among image feed zero = 0
 steps_among image feed (suc moves) = steps_among image feed moves + counted (next_step image (page_after image feed moves))
 
--- where the page stands after so many moves
-abbrev pub stands_after : SoftForm → List ℕ → ℕ → Standing
-stands_after image feed moves = standing (slice_get image.code) image.ins image.outs (page_after image feed moves)
+-- where a page stands
+abbrev pub stands : SoftForm → Page → Standing
+stands image page = standing (slice_get image.code) image.ins image.outs page
 
 -- how a run ends whose page stands so: a page that has trapped counts as ended, and one that could go on has no step left
 abbrev pub end_of : Standing → RunEnd
@@ -53,7 +53,7 @@ end_of HasTrapped = Done
 end_of (Waits p) = Stalled (port p)
 
 abbrev pub end_after : SoftForm → List ℕ → ℕ → RunEnd
-end_after image feed moves = end_of (stands_after image feed moves)
+end_after image feed moves = end_of (stands image (page_after image feed moves))
 
 -- the words written to out-port 0 within so many moves
 abbrev pub written_after : SoftForm → List ℕ → ℕ → List ℕ
@@ -69,4 +69,4 @@ Stops limit made next (Waits p) = Unit {0}
 -- A run of at most so many steps is over after these moves.
 pub record IsRun (limit : ℕ) (image : SoftForm) (feed : List ℕ) (moves : ℕ) : Type 0 where
   pub within : steps_among image feed moves ≤ limit
-  pub over : Stops limit (steps_among image feed moves) (counted (next_step image (page_after image feed moves))) (stands_after image feed moves)
+  pub over : Stops limit (steps_among image feed moves) (counted (next_step image (page_after image feed moves))) (stands image (page_after image feed moves))

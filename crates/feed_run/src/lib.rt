@@ -3,4 +3,4 @@
 
 mod run;
 
-pub use run::{Run, RunEnd, run_on};
+pub use run::{Move, Progress, Run, RunEnd, run_on};

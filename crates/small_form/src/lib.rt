@@ -1,0 +1,11 @@
+//! The small form of operator texts: one operator with one in-port and one out-port, whose
+//! statements assign, read and write.
+#![tactic(auto)]
+
+mod expression;
+mod form;
+mod scope;
+mod statement;
+mod token;
+
+pub use form::read_form;
