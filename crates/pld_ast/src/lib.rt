@@ -2,6 +2,7 @@
 #![tactic(auto)]
 
 mod lookup;
+mod nodes;
 mod tree;
 
 pub use lookup::{scalar_place, type_in, type_of_array, type_of_scalar};
