@@ -1,0 +1,8 @@
+//! The small form of operator texts: one operator with one in-port and one out-port, whose
+//! statements assign, read and write.
+#![tactic(auto)]
+
+mod expression;
+mod scope;
+mod token;
+
