@@ -1,2 +1,4 @@
 pub mod Moves
 pub mod Pieces
+pub mod Steps
+pub mod Texts

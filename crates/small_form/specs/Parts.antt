@@ -1,5 +1,6 @@
 -- What the parts of the reader find.
 use Rattle.std.specs.Prelude.{ℕ, ◌≡◌, ◌<◌, List, [], ◌∷◌, length, Option, None, true}
+use Rattle.std.specs.List.{list_all}
 use Rattle.pld_ast.specs.declared.tree.BinOp.{BinOp}
 use Rattle.pld_ast.specs.declared.tree.BinOp.TheVariants.{Add, Sub}
 use Rattle.pld_ast.specs.declared.tree.Expr.{Expr}
@@ -65,3 +66,11 @@ pub record IsSmall (op : Operator) : Type 0 where
   pub straight : IsStraight op
   pub ins : (program_of op).ins ≡ 1
   pub outs : (program_of op).outs ≡ 1
+
+-- what holds of every operator that tokens make: its statements only assign, read, write and return,
+-- it has one port of each side, and no array
+pub record IsShaped (op : Operator) : Type 0 where
+  pub straight : list_all is_straight op.body ≡ true
+  pub ins : (program_of op).ins ≡ 1
+  pub outs : (program_of op).outs ≡ 1
+  pub lengths : (program_of op).lengths ≡ []

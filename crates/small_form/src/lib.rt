@@ -3,6 +3,10 @@
 #![tactic(auto)]
 
 mod expression;
+mod form;
 mod scope;
+mod statement;
 mod token;
+
+pub use form::read_form;
 
