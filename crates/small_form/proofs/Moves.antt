@@ -1,21 +1,16 @@
 -- Steps of the reading, as the code takes them.
-use Rattle.std.proofs.Common.{ℕ, suc, ◌+◌, ◌<◌, ◌≤◌, ◌≡◌, refl, sym, ◌∙◌, ap, subst, List, [], ◌∷◌, ◌++◌, length, Option, Some, None, Bool, true, false, cond, ◌&&◌, arith, append_assoc}
-use Rattle.std.specs.Str.{bytes_eq}
+use Rattle.std.proofs.Common.{ℕ, ◌<◌, ◌≡◌, refl, sym, ◌∙◌, ap, subst, List, [], ◌∷◌, length, Option, None, Bool, true, false, arith}
 use Rattle.pld_ast.specs.declared.tree.Ty.TheVariants as ty
 use Rattle.pld_ast.specs.declared.tree.BinOp.{BinOp}
-use Rattle.pld_ast.specs.declared.tree.BinOp.TheVariants.{Add, Sub}
 use Rattle.pld_ast.specs.declared.tree.Expr.{Expr}
 use Rattle.pld_ast.specs.declared.tree.Expr.TheVariants.{Lit, Var, Binary}
-use Rattle.pld_ast.specs.declared.tree.Target.TheVariants as target
-use Rattle.pld_ast.specs.declared.tree.Stmt.{Stmt}
-use Rattle.pld_ast.specs.declared.tree.Stmt.TheVariants as stmt
 use Rattle.small_form.specs.declared.token.Token.{Token}
 use Rattle.small_form.specs.declared.token.Mark as a
 use Rattle.small_form.specs.declared.token.Token.TheVariants.{Name, Number, Mark}
-use Rattle.small_form.specs.declared.token.Mark.TheVariants.{Void, In, Out, Int, Read, Write, Open, Close, OpenBrace, CloseBrace, Comma, Semicolon, Assign, Plus, Minus}
+use Rattle.small_form.specs.declared.token.Mark.TheVariants.{Open, Close, Semicolon, Plus, Minus}
 use Rattle.small_form.specs.declared.scope.Scope.{Scope}
-use Rattle.small_form.specs.Form.{used_of, is_declared, only_if, prefixed, Left, Nothing, Behind, joined, Hole, ForAssign, ForWrite, statements, operand, after}
-use Rattle.small_form.specs.Parts.{BeginsOtherwise, NoOperator, BeginsWithOperator, IsOperator, plus, minus, NoName, NoNumber, IsOperand, NoOperand, IsExpression, NoExpression, IsStatement}
+use Rattle.small_form.specs.Form.{used_of, is_declared, only_if, Left, Nothing, Behind, joined, Hole, ForAssign, ForWrite, operand, after}
+use Rattle.small_form.specs.Parts.{BeginsOtherwise, NoOperator, BeginsWithOperator, IsOperator, plus, minus, NoName, NoNumber, IsOperand, NoOperand, IsExpression, NoExpression}
 
 only : {A : Type 0} → (t : Bool) (o : Option A) → t ≡ true → only_if t o ≡ o
 only t o h = ap (λ b. only_if b o) h

@@ -1,5 +1,5 @@
 -- The pieces of a text, by the first of them.
-use Rattle.std.proofs.Common.{ℕ, suc, ◌+◌, ◌<◌, ◌≡◌, refl, sym, ◌∙◌, ap, subst, List, [], ◌∷◌, ◌++◌, length, take, drop, Option, Some, None, Bool, true, false, cond, ◌&&◌, arith, append_assoc}
+use Rattle.std.proofs.Common.{ℕ, suc, ◌<◌, ◌≡◌, refl, sym, ◌∙◌, ap, List, [], ◌∷◌, ◌++◌, length, take, drop, Option, Some, None, Bool, true, false, cond, ◌&&◌, arith, append_assoc}
 use Rattle.small_form.specs.declared.token.Token.{Token}
 use Rattle.small_form.specs.Tokens.{is_word_byte, in_front, pieces, run_of, is_space, followed, token_of, tokens_in}
 
@@ -31,10 +31,10 @@ longest : (b : ℕ) (bytes : List ℕ) → is_word_byte b ≡ true → pieces (b
 longest b [] h = refl
 longest b (c ∷ bytes) h = by_byte c
     (λ k. ap (in_front b) (longest c bytes k) ∙ joins b c (take (run_of bytes) bytes) (pieces (drop (run_of bytes) bytes)) h k
-        ∙ ap (λ n. (b ∷ take n (c ∷ bytes)) ∷ pieces (drop n (c ∷ bytes))) (sym (run_at_word c bytes k)))
+    ∙ ap (λ n. (b ∷ take n (c ∷ bytes)) ∷ pieces (drop n (c ∷ bytes))) (sym (run_at_word c bytes k)))
     (λ k. ap (in_front b) (alone c (pieces bytes) k) ∙ apart b c [] (pieces bytes) h k
-        ∙ ap (λ ps. (b ∷ []) ∷ ps) (sym (alone c (pieces bytes) k))
-        ∙ ap (λ n. (b ∷ take n (c ∷ bytes)) ∷ pieces (drop n (c ∷ bytes))) (sym (run_at_other c bytes k)))
+    ∙ ap (λ ps. (b ∷ []) ∷ ps) (sym (alone c (pieces bytes) k))
+    ∙ ap (λ n. (b ∷ take n (c ∷ bytes)) ∷ pieces (drop n (c ∷ bytes))) (sym (run_at_other c bytes k)))
 
 -- a text that begins with a word
 pub at_word : (text : List ℕ) (n : ℕ) → n ≡ run_of text → (n ≡ 0 → ⊥) → pieces text ≡ take n text ∷ pieces (drop n text)

@@ -1,5 +1,5 @@
 -- Statements, as the code reads them.
-use Rattle.std.proofs.Common.{ℕ, suc, ◌+◌, ◌<◌, ◌≤◌, ◌≡◌, refl, sym, ◌∙◌, ap, List, [], ◌∷◌, ◌++◌, length, Option, Some, None, Bool, true, false, ◌&&◌, arith, append_assoc, append-nil}
+use Rattle.std.proofs.Common.{ℕ, ◌<◌, ◌≡◌, refl, sym, ◌∙◌, ap, List, [], ◌∷◌, ◌++◌, length, Option, Some, None, Bool, true, false, ◌&&◌, arith, append_assoc, append-nil}
 use Rattle.std.specs.Str.{bytes_eq}
 use Rattle.std.specs.List.{list_all}
 use Rattle.std.proofs.lemmas.List.Folds.{list_all-append}
@@ -9,11 +9,11 @@ use Rattle.pld_ast.specs.declared.tree.Stmt.{Stmt}
 use Rattle.pld_ast.specs.declared.tree.Stmt.TheVariants as stmt
 use Rattle.pld_ast.specs.Straight.{is_straight}
 use Rattle.small_form.specs.declared.token.Token.{Token}
-use Rattle.small_form.specs.declared.token.Token.TheVariants.{Name, Number, Mark}
-use Rattle.small_form.specs.declared.token.Mark.TheVariants.{Void, In, Out, Int, Read, Write, Open, Close, OpenBrace, CloseBrace, Comma, Semicolon, Assign, Plus, Minus}
+use Rattle.small_form.specs.declared.token.Token.TheVariants.{Name, Mark}
+use Rattle.small_form.specs.declared.token.Mark.TheVariants.{Read, Write, Open, Close, CloseBrace, Comma, Semicolon, Assign, Plus, Minus}
 use Rattle.small_form.specs.declared.scope.Scope.{Scope}
-use Rattle.small_form.specs.Form.{used_of, is_declared, only_if, prefixed, Left, Nothing, Behind, joined, Hole, ForAssign, ForWrite, statements, operand, after}
-use Rattle.small_form.specs.Parts.{BeginsOtherwise, NoOperator, NoName, IsExpression, NoExpression, IsStatement}
+use Rattle.small_form.specs.Form.{used_of, is_declared, only_if, prefixed, Nothing, ForAssign, ForWrite, statements, operand, after}
+use Rattle.small_form.specs.Parts.{BeginsOtherwise, NoName, IsExpression, NoExpression, IsStatement}
 
 none : {A : Type 0} → (t : Bool) → only_if {A = A} t None ≡ None
 none true = refl

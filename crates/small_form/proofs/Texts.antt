@@ -1,11 +1,11 @@
 -- Headers and declarations, as the code reads them.
-use Rattle.std.proofs.Common.{ℕ, ◌≡◌, refl, sym, ◌∙◌, ap, List, [], ◌∷◌, length, Option, Some, None, Bool, true, false, cond, arith}
+use Rattle.std.proofs.Common.{ℕ, ◌≡◌, refl, sym, ◌∙◌, ap, List, ◌∷◌, Option, Some, None, true, false, cond}
 use Rattle.std.specs.Str.{bytes_eq}
 use Rattle.pld_ast.specs.declared.tree.Stmt.{Stmt}
 use Rattle.pld_ast.specs.declared.tree.Operator.{Operator}
 use Rattle.small_form.specs.declared.token.Token.{Token}
-use Rattle.small_form.specs.declared.token.Token.TheVariants.{Name, Number, Mark}
-use Rattle.small_form.specs.declared.token.Mark.TheVariants.{Void, In, Out, Int, Read, Write, Open, Close, OpenBrace, CloseBrace, Comma, Semicolon, Assign, Plus, Minus}
+use Rattle.small_form.specs.declared.token.Token.TheVariants.{Name, Mark}
+use Rattle.small_form.specs.declared.token.Mark.TheVariants.{Void, In, Out, Int, Open, Close, OpenBrace, Comma, Semicolon}
 use Rattle.small_form.specs.declared.scope.Scope.{Scope}
 use Rattle.small_form.specs.Form.{scope_of, with_scalar, is_taken, statements, operator_with, declarations, operator_in}
 use Rattle.small_form.specs.Parts.{BeginsOtherwise, NoName}

@@ -1,5 +1,5 @@
 -- The small form of operator texts.
-use Rattle.std.specs.Prelude.{ℕ, suc, ◌-◌, Bool, true, false, ◌||◌, ◌&&◌, nat_le, List, [], ◌∷◌, ◌++◌, length, Option, Some, None, if◌then◌else◌}
+use Rattle.std.specs.Prelude.{◌≡◌, ℕ, suc, ◌-◌, Bool, true, ◌||◌, ◌&&◌, nat_le, List, [], ◌∷◌, ◌++◌, length, Option, Some, None, if◌then◌else◌}
 use Rattle.std.specs.Str.{bytes_eq}
 use Rattle.std.specs.List.{list_any}
 use Rattle.pld_base.specs.declared.event.Place.{Place}
@@ -8,7 +8,6 @@ use Rattle.pld_ast.specs.declared.tree.Ty.TheVariants as ty
 use Rattle.pld_ast.specs.declared.tree.BinOp.{BinOp}
 use Rattle.pld_ast.specs.declared.tree.BinOp.TheVariants.{Add, Sub}
 use Rattle.pld_ast.specs.declared.tree.Used.{Used}
-use Rattle.pld_ast.specs.declared.tree.Port.{Port}
 use Rattle.pld_ast.specs.declared.tree.Scalar.{Scalar}
 use Rattle.pld_ast.specs.declared.tree.Expr.{Expr}
 use Rattle.pld_ast.specs.declared.tree.Expr.TheVariants.{Lit, Var, Binary}
@@ -18,6 +17,7 @@ use Rattle.pld_ast.specs.declared.tree.Stmt.TheVariants as stmt
 use Rattle.pld_ast.specs.declared.tree.Operator.{Operator}
 use Rattle.pld_ast.specs.Nodes.{action_nodes}
 use Rattle.pld_ast.specs.Resolve.{program_of}
+use Rattle.pld_ast.specs.Straight.{IsStraight}
 use Rattle.small_form.specs.declared.token.Token.{Token}
 use Rattle.small_form.specs.declared.token.Token.TheVariants.{Name, Number, Mark}
 use Rattle.small_form.specs.declared.token.Mark.TheVariants.{Void, In, Out, Int, Read, Write, Open, Close, OpenBrace, CloseBrace, Comma, Semicolon, Assign, Plus, Minus}
@@ -28,9 +28,11 @@ use Rattle.small_form.specs.Tokens.{pieces, tokens_in}
 abbrev pub nowhere : Place
 nowhere = record { line = 1; column = 1 }
 
+-- a name where it is used
 abbrev pub used_of : List ℕ → Used
 used_of x = record { name = x; at = nowhere }
 
+-- a declared scalar
 abbrev pub scalar_of : List ℕ → Scalar
 scalar_of x = record { name = x; ty = ty.Int; at = nowhere }
 
@@ -38,6 +40,7 @@ scalar_of x = record { name = x; ty = ty.Int; at = nowhere }
 abbrev pub scope_of : List ℕ → List ℕ → List ℕ → Scope
 scope_of name input output = record { name = name; input = input; output = output; scalars = [] }
 
+-- the names with one more scalar, the last
 abbrev pub with_scalar : Scope → List ℕ → Scope
 with_scalar scope x = record scope { scalars = scope.scalars ++ scalar_of x ∷ [] }
 
@@ -49,6 +52,7 @@ is_declared scope x = list_any (λ s. bytes_eq s.name x) scope.scalars
 abbrev pub is_taken : Scope → List ℕ → Bool
 is_taken scope x = bytes_eq scope.input x || bytes_eq scope.output x || is_declared scope x
 
+-- what was found, if the test holds
 abbrev pub only_if : {A : Type 0} → Bool → Option A → Option A
 only_if test found = if test then found else None
 
@@ -138,10 +142,17 @@ abbrev pub if_small : Option Operator → Option Operator
 if_small (Some op) = if nat_le (length op.scalars) 64 && nat_le (action_nodes (program_of op).body) 1000 then Some op else None
 if_small None = None
 
+-- the operator that these tokens make, within the limits
 abbrev pub form_in : Option (List Token) → Option Operator
 form_in (Some ts) = if nat_le (length ts) 4096 && is_narrow 0 ts then if_small (operator_in ts) else None
 form_in None = None
 
 -- the operator with this text, and None where it is outside the small form
-abbrev pub form_of : List ℕ → Option Operator
+unfoldable pub form_of : List ℕ → Option Operator
 form_of text = if nat_le (length text) 65536 then form_in (tokens_in (pieces text)) else None
+
+-- what the small form promises of an operator
+pub record IsSmall (op : Operator) : Type 0 where
+  pub straight : IsStraight op
+  pub ins : (program_of op).ins ≡ 1
+  pub outs : (program_of op).outs ≡ 1

@@ -1,7 +1,6 @@
 -- The tokens of a text.
 use Rattle.std.specs.Prelude.{ℕ, suc, ◌+◌, ◌-◌, ◌*◌, ◌==◌, Bool, true, false, ◌||◌, ◌&&◌, nat_le, List, [], ◌∷◌, Option, Some, None, codes, if◌then◌else◌}
 use Rattle.std.specs.Str.{bytes_eq}
-use Rattle.std.specs.List.{list_all}
 use Rattle.pld_base.specs.Names.{is_digit, is_letter_or_digit, name_in}
 use Rattle.small_form.specs.declared.token.Token.{Token}
 use Rattle.small_form.specs.declared.token.Mark as a
@@ -68,10 +67,12 @@ abbrev pub is_zero_led : List ℕ → Bool
 is_zero_led (b ∷ c ∷ bytes) = b == 48
 is_zero_led _ = false
 
+-- a number, as a token
 abbrev pub as_number : Option ℕ → Option Token
 as_number (Some n) = Some (Number n)
 as_number None = None
 
+-- a name, as a token
 abbrev pub as_name : Option (List ℕ) → Option Token
 as_name (Some x) = Some (Name x)
 as_name None = None
@@ -85,10 +86,12 @@ abbrev pub other_word : List ℕ → Option Token
 other_word [] = None
 other_word (b ∷ bytes) = if is_digit b then number_of (b ∷ bytes) else as_name (name_in (b ∷ bytes))
 
+-- a mark, as a token
 abbrev pub as_mark : Option a.Mark → Option Token
 as_mark (Some m) = Some (Mark m)
 as_mark None = None
 
+-- a keyword, or else the other token
 abbrev pub or_other : Option a.Mark → Option Token → Option Token
 or_other (Some m) other = Some (Mark m)
 or_other None other = other
@@ -99,6 +102,7 @@ token_of [] = None
 token_of (b ∷ bytes) =
     if is_word_byte b then (if is_reserved (b ∷ bytes) then None else or_other (keyword_of (b ∷ bytes)) (other_word (b ∷ bytes))) else as_mark (mark_of b)
 
+-- whether the piece is a space
 abbrev pub is_space : List ℕ → Bool
 is_space [] = true
 is_space (b ∷ bytes) = is_blank b

@@ -68,11 +68,7 @@ fn variable(scope: &Scope, name: &Name) -> Option<Expr>
 fn binary(alloc: Global, operator: BinOp, a: Expr, b: Expr) -> Result<Expr, NoMemory>
     ensures { IfOk result (λ e. e ≡ Expr.Binary operator a b) }
 {
-    Ok(Expr::Binary(
-        operator,
-        Boxed::new(alloc, a)?,
-        Boxed::new(alloc, b)?,
-    ))
+    Ok(Expr::Binary(operator, Boxed::new(alloc, a)?, Boxed::new(alloc, b)?))
 }
 
 // Behind an open bracket: an expression, and the bracket's end.

@@ -4,8 +4,8 @@ ghost use Rattle.std.specs.Prelude.{ℕ, List, ◌≡◌, ◌≤◌, ◌∷◌, 
 ghost use Rattle.std.specs.List.{list_all};
 ghost use Rattle.pld_ast.specs.Straight.{is_straight};
 ghost use Rattle.small_form.specs.declared.token.Mark.TheVariants.{Void, In, Out, Open, Close, OpenBrace, Comma};
-ghost use Rattle.small_form.specs.Form.{open_after, is_narrow as is_narrow_behind, operator_in, declarations as declarations_of, statements as statements_of, operator_with, if_small as if_small_form, form_of};
-ghost use Rattle.small_form.specs.Parts.{IsShaped, IsSmall};
+ghost use Rattle.small_form.specs.Form.{open_after, is_narrow as is_narrow_behind, operator_in, declarations as declarations_of, statements as statements_of, operator_with, if_small as if_small_form, form_of, IsSmall};
+ghost use Rattle.small_form.specs.Parts.{IsShaped};
 
 use crate::expression::{behind, name_first};
 use crate::scope::{NOWHERE, Scope};
@@ -102,10 +102,7 @@ fn header_end(tokens: &[Token]) -> Option<(&Name, &[Token])>
 }
 
 // The declarations, and what stands behind them.
-fn declarations(
-    mut scope: Scope,
-    tokens: &[Token],
-) -> Result<Option<(Scope, &[Token])>, NoMemory>
+fn declarations(mut scope: Scope, tokens: &[Token]) -> Result<Option<(Scope, &[Token])>, NoMemory>
     ensures { IfOk result (λ found. MatchOption found (declarations_of scope tokens.now ≡ None) (λ x. declarations_of scope tokens.now ≡ operator_with x.0 (statements_of x.0 x.1.now))) }
 {
     let mut rest = tokens;
@@ -197,7 +194,8 @@ fn if_small(op: Operator) -> Option<Operator>
     Some(op)
 }
 
-/// The operator with this text. None where the text is outside the small form.
+/// The operator with this text. None exactly where the text is outside the small form.
+#[tactic(auto, unfolding(crate::specs::Form::form_of))]
 pub fn read_form(alloc: Global, text: &[u8]) -> Result<Option<Operator>, NoMemory>
     ensures form { IfOk result (λ found. found ≡ form_of text.now) }
     ensures small { IfOk result (λ found. IfSome found IsSmall) }
@@ -218,4 +216,37 @@ pub fn read_form(alloc: Global, text: &[u8]) -> Result<Option<Operator>, NoMemor
         return Ok(None);
     };
     Ok(if_small(op))
+}
+
+#[cfg(test)]
+mod tests {
+    use super::*;
+    use std::test::Fail;
+
+    fn is_refused(alloc: Global, text: &[u8]) -> Result<bool, NoMemory> {
+        Ok(read_form(alloc, text)?.is_none())
+    }
+
+    #[test]
+    fn reads_an_increment(rt: HostRuntime) -> Result<(), Fail> {
+        let text = b"void inc(in a, out b) { int32_t x; x = read(a); write(b, x + 1); }";
+        let op = read_form(rt.alloc(), text)?.ok_or("refused")?;
+        assert_eq!(rt; op.scalars.len(), 1);
+        assert_eq!(rt; op.body.len(), 2);
+        assert_eq!(rt; op.nodes(), 5);
+        Ok(())
+    }
+
+    #[test]
+    fn refuses_others(rt: HostRuntime) -> Result<(), Fail> {
+        assert!(rt; is_refused(rt.alloc(), b"void f(in a, out a) { }")?);
+        assert!(rt; is_refused(rt.alloc(), b"void f(in a, out b) { write(b, 01); }")?);
+        assert!(rt;
+            !is_refused(
+                rt.alloc(),
+                b"void f(in a,out b){write(b,(2147483647)-(1-0));}"
+            )?
+        );
+        Ok(())
+    }
 }

@@ -9,4 +9,3 @@ mod statement;
 mod token;
 
 pub use form::read_form;
-

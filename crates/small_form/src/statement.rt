@@ -42,10 +42,7 @@ fn read_statement<'a>(
     if !scope.input.is_same(port) {
         return None;
     }
-    Some((
-        Stmt::Read(Target::Scalar(used(*target)), used(*port)),
-        rest,
-    ))
+    Some((Stmt::Read(Target::Scalar(used(*target)), used(*port)), rest))
 }
 
 // Behind a name.

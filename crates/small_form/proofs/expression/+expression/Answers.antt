@@ -1,9 +1,7 @@
-use Rattle.std.proofs.Common.{◌≡◌, sym, subst, ◌∷◌, refl, true, false}
+use Rattle.std.proofs.Common.{◌∷◌, refl}
 use Rattle.std.proofs.lemmas.Option.{MatchOption-at_none, MatchOption-at_some}
 use Rattle.small_form.specs.declared.token.Token.TheVariants.{Mark}
 use Rattle.small_form.specs.declared.token.Mark.TheVariants.{Open}
-use Rattle.pld_ast.specs.declared.tree.Expr.TheVariants.{Var}
-use Rattle.small_form.specs.Form.{is_declared, used_of}
 use Rattle.small_form.specs.Parts.{IsOperand, NoOperand, IsExpression, NoExpression}
 use Rattle.small_form.proofs.Moves.{a_number, a_variable, an_unknown, a_group, a_bad_group, an_open_group, no_operand, reached_more, no_more}
 use Rattle.small_form.proofs.expression.+expression.Goals as goal

@@ -1,4 +1,4 @@
-use Rattle.small_form.proofs.Texts.{no_comma, no_out, no_output, no_close, no_brace, ended}
+use Rattle.small_form.proofs.Texts.{no_comma, no_out, no_output, no_close, no_brace}
 use Rattle.small_form.proofs.form.header_end.Goals as goal
 
 pub returns-in_default : goal.returns-in_default

@@ -1,4 +1,4 @@
-use Rattle.small_form.proofs.Texts.{no_void, no_name, no_open, no_in, no_input, started}
+use Rattle.small_form.proofs.Texts.{no_void, no_name, no_open, no_in, no_input}
 use Rattle.small_form.proofs.form.header_start.Goals as goal
 
 pub returns-in_default : goal.returns-in_default

@@ -1,4 +1,3 @@
-use Rattle.std.proofs.Common.{sym}
 use Rattle.std.proofs.lemmas.Option.{MatchOption-at_none, MatchOption-at_some}
 use Rattle.small_form.specs.Parts.{IsExpression, NoExpression}
 use Rattle.small_form.proofs.Steps.{write_no_value, write_unclosed, write_unended, write_whole}
