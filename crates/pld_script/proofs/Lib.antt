@@ -1,0 +1,4 @@
+pub mod Lining
+pub mod Reading
+pub mod Wording
+pub mod Counting

@@ -1,0 +1,82 @@
+-- The statements of a text.
+use Rattle.std.specs.Prelude.{ℕ, ◌+◌, ◌≤◌, ◌≡◌, Bool, true, false, if◌then◌else◌, List, [], ◌∷◌, ◌++◌, length, drop, flat_map, Option, Some, None}
+use Rattle.pld_script.specs.Lines.{lines}
+use Rattle.pld_script.specs.Grammar.{kind_of, closes_text, line_statement, text_statement}
+use Rattle.pld_script.specs.declared.line.LineKind.TheVariants.{Skipped, Opens, Single}
+use Rattle.pld_script.specs.declared.statement.Statement.{Statement}
+use Rattle.pld_script.specs.declared.next.Next.{Next}
+use Rattle.pld_script.specs.declared.next.Next.TheVariants as next
+
+-- a statement, or None for a bad line, with the number of its first line
+pub record Placed : Type 0 where
+  pub number : ℕ
+  pub said : Option Statement
+
+-- the bytes of a text's lines
+abbrev pub text_of : List (List ℕ) → List ℕ
+text_of text = flat_map (λ line. line ++ 10 ∷ []) text
+
+-- The statements of these lines. `number` is that of the next statement's first line. The first list has the lines of a
+-- statement that has begun, its first line and those of its text so far; it is empty where none has.
+abbrev pub statements_from : Bool → ℕ → List (List ℕ) → List (List ℕ) → List Placed
+statements_from ended number [] [] = []
+statements_from ended number (head ∷ text) [] = if ended then record { number = number; said = None } ∷ [] else []
+statements_from ended number [] (line ∷ lines) =
+    elim (kind_of line) [
+      | Skipped ↦ statements_from ended (number + 1) [] lines
+      | Opens ↦ statements_from ended number (line ∷ []) lines
+      | Single ↦ record { number = number; said = line_statement line } ∷ statements_from ended (number + 1) [] lines
+    ]
+statements_from ended number (head ∷ text) (line ∷ lines) =
+    if closes_text line then record { number = number; said = text_statement head (text_of text) } ∷ statements_from ended (number + (2 + length text)) [] lines
+    else statements_from ended number (head ∷ (text ++ line ∷ [])) lines
+
+-- The statements of a text. `ended` says that nothing follows it.
+abbrev pub statements : Bool → List ℕ → List Placed
+statements ended bytes = statements_from ended 1 [] (lines ended bytes)
+
+-- the statements of bytes whose first line has this number
+abbrev pub statements_at : Bool → ℕ → List ℕ → List Placed
+statements_at ended number bytes = statements_from ended number [] (lines ended bytes)
+
+-- What may follow these bytes: nothing where they have ended.
+pub record MayFollow (ended e : Bool) (more : List ℕ) : Type 0 where
+  pub end : ended ≡ true → e ≡ true
+  pub none : ended ≡ true → more ≡ []
+
+-- The first statement of these bytes, whatever follows: it has so many skipped lines before it and so many of its own, and uses so many bytes.
+pub record IsFirst (ended : Bool) (bytes : List ℕ) (said : Option Statement) (blank own used : ℕ) : Type 0 where
+  pub within : used ≤ length bytes
+  pub some : 1 ≤ used
+  pub counts : blank + own ≤ used
+  pub first : (number : ℕ) (e : Bool) (more : List ℕ) → MayFollow ended e more →
+      statements_at e number (bytes ++ more) ≡ record { number = number + blank; said = said } ∷ statements_at e (number + blank + own) (drop used bytes ++ more)
+
+-- no whole statement stands in these bytes
+abbrev pub HoldsNone : Bool → List ℕ → Type 0
+HoldsNone ended bytes = (number : ℕ) → statements_at ended number bytes ≡ []
+
+-- What these bytes begin with: their first statement, or none that is whole.
+abbrev pub IsNext : Bool → List ℕ → Next → Type 0
+IsNext ended bytes (next.Statement found) = IsFirst ended bytes (Some found.statement) found.blank found.lines found.used
+IsNext ended bytes (next.BadLine skipped) = IsFirst ended bytes None skipped.blank skipped.lines skipped.used
+IsNext ended bytes next.More = (ended ≡ false) × HoldsNone false bytes
+IsNext ended bytes next.End = (ended ≡ true) × HoldsNone true bytes
+
+-- The first line of these bytes, whatever follows.
+pub record IsLine (ended : Bool) (bytes line : List ℕ) (used : ℕ) : Type 0 where
+  pub within : used ≤ length bytes
+  pub some : 1 ≤ used
+  pub first : (e : Bool) (more : List ℕ) → MayFollow ended e more → lines e (bytes ++ more) ≡ line ∷ lines e (drop used bytes ++ more)
+
+-- A reader of these bytes has come to `at`: it has passed so many skipped lines, and these lines of a statement.
+pub record Reads (ended : Bool) (bytes : List ℕ) (blank : ℕ) (begun : List (List ℕ)) (at : ℕ) : Type 0 where
+  pub within : at ≤ length bytes
+  pub counts : blank + length begun ≤ at
+  pub same : (number : ℕ) (e : Bool) (more : List ℕ) → MayFollow ended e more →
+      statements_at e number (bytes ++ more) ≡ statements_from e (number + blank) begun (lines e (drop at bytes ++ more))
+
+-- how a statement, or a bad line, is told
+abbrev pub next_of : Option Statement → ℕ → ℕ → ℕ → Next
+next_of None blank own used = next.BadLine (record { blank = blank; lines = own; used = used })
+next_of (Some statement) blank own used = next.Statement (record { statement = statement; blank = blank; lines = own; used = used })

@@ -1,0 +1,14 @@
+//! The statements of a session's text: its lines, the words of a line, and what they say.
+#![tactic(auto)]
+
+mod grammar;
+mod line;
+mod next;
+mod number;
+mod statement;
+mod text;
+
+pub use line::LineKind;
+pub use next::{Found, Next, Skipped, next_statement};
+pub use statement::Statement;
+pub use text::{Text, WordList};

@@ -1,0 +1,5 @@
+use Rattle.pld_session.proofs.Starting.{exact_from}
+use Rattle.pld_session.proofs.top.pld_plain.Goals as goal
+
+pub returns-clause-exact : goal.returns-clause-exact
+returns-clause-exact g c = exact_from _ _ _ _ _ _ _ _ c.new-session.result _ c.new-session.ensures c.run.ensures.exact

@@ -1,0 +1,5 @@
+pub mod Answers
+pub mod Replies
+pub mod States
+pub mod Steps
+pub mod Headline

@@ -1,0 +1,10 @@
+//! A session: what each statement is answered, and the calls that run a session whole.
+#![tactic(auto)]
+
+mod reply;
+mod session;
+mod top;
+
+pub use pld_driver::Status;
+pub use session::{Added, Record, Session};
+pub use top::{Bench, Options, pld, pld_plain};

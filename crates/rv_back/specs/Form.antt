@@ -1,0 +1,55 @@
+-- An operator compiled for a softcore, and the code of its parts.
+use Rattle.std.specs.Prelude.{ℕ, ◌≤◌, List, map, filter, length, sum}
+use Rattle.pld_base.specs.declared.event.Side.{Side}
+use Rattle.pld_base.specs.declared.event.Side.TheVariants.{In, Out}
+use Rattle.pld_ast.specs.declared.tree.Expr.{Expr}
+use Rattle.pld_ast.specs.declared.tree.Stmt.{Stmt}
+use Rattle.pld_ast.specs.declared.tree.Port.{Port}
+use Rattle.pld_ast.specs.declared.tree.Operator.{Operator}
+use Rattle.pld_ast.specs.declared.tree.UnOp.{UnOp}
+use Rattle.pld_ast.specs.declared.tree.UnOp.TheVariants as un
+use Rattle.pld_ast.specs.Program.{Keep, Negate, Flip, IsZero}
+use Rattle.pld_ast.specs.Resolve.{is_in, is_out, declared_in, program_of, value_in, action_in, block_in}
+use Rattle.rv_isa.specs.declared.instr.Instr.{Instr}
+use Rattle.rv_back.specs.Code.{op1_code, value_code, action_code, soft_code}
+
+-- what contracts see of an image: the counts of its ports, and its code
+pub record SoftForm : Type 0 where
+  pub ins : ℕ
+  pub outs : ℕ
+  pub code : List Instr
+
+-- an operator, compiled
+abbrev pub soft_form : Operator → SoftForm
+soft_form op = record { ins = (program_of op).ins; outs = (program_of op).outs; code = soft_code (program_of op) }
+
+-- the names of the ports of one side, in their order
+abbrev pub ports_at : Side → List Port → List (List ℕ)
+ports_at In ports = map (λ q. q.name) (filter (λ q. is_in q.side) ports)
+ports_at Out ports = map (λ q. q.name) (filter (λ q. is_out q.side) ports)
+
+-- an operator whose ports, scalars and arrays are within the limits
+pub record HasRoom (op : Operator) : Type 0 where
+  pub ins : (program_of op).ins ≤ 8
+  pub outs : (program_of op).outs ≤ 8
+  pub scalars : (program_of op).scalars ≤ 64
+  pub words : sum (program_of op).lengths ≤ 8192
+
+-- the code of a prefix operator
+abbrev pub un_code : UnOp → List Instr
+un_code un.Neg = op1_code Negate
+un_code un.Plus = op1_code Keep
+un_code un.BitNot = op1_code Flip
+un_code un.Not = op1_code IsZero
+
+-- the code of an expression of an operator
+abbrev pub expr_code : Operator → Expr → List Instr
+expr_code op e = value_code (program_of op).lengths (value_in (declared_in op) e)
+
+-- the code of a statement of an operator
+abbrev pub stmt_code : Operator → Stmt → List Instr
+stmt_code op s = action_code (program_of op).lengths (action_in (declared_in op) s)
+
+-- the code of a list of statements of an operator
+abbrev pub block_code : Operator → List Stmt → List Instr
+block_code op body = action_code (program_of op).lengths (block_in (declared_in op) body)
