@@ -1,11 +1,10 @@
 -- Two runs come to the same page.
-use Rattle.std.proofs.Common.{◌≡◌, ◌≤◌, ◌<◌, ◌+◌, ◌-◌, ◌⊎◌, ℕ, zero, suc, List, [], ◌∷◌, refl, sym, ap, ◌∙◌, subst, arith, inl, inr}
-use Rattle.pld_base.specs.Events.{words_written}
+use Rattle.std.proofs.Common.{◌≡◌, ◌≤◌, ◌+◌, ◌-◌, ◌⊎◌, ℕ, zero, suc, List, [], ◌∷◌, refl, sym, ap, ◌∙◌, subst, arith, inl, inr}
 use Rattle.pld_base.specs.Pages.{Standing, Going, Ended as HasEnded, Trapped as HasTrapped, Waits}
 use Rattle.rv_core.specs.Machine.{Step, Went, AtRead, AtWrite, Ended, Trapped}
 use Rattle.rv_core.specs.Page.{Page, moved, stands as stands_at, standing_at, take_word}
 use Rattle.rv_back.specs.Form.{SoftForm}
-use Rattle.feed_run.specs.Runs.{next_step, moved_on, page_after, steps_among, counted, stands, end_of, end_after, written_after, Stops, IsRun}
+use Rattle.feed_run.specs.Runs.{next_step, moved_on, page_after, steps_among, counted, stands, Stops, IsRun}
 
 -- a page that isn't going on makes no move
 still_read : (p rd : ℕ) (words : List ℕ) (page : Page) → (standing_at p words ≡ Going → ⊥) → take_word p rd words page ≡ page
@@ -74,5 +73,6 @@ either_way a b = grind arith
 pub pages_agree : (limit : ℕ) (image : SoftForm) (feed : List ℕ) (moves other : ℕ) → IsRun limit image feed moves → IsRun limit image feed other → page_after image feed moves ≡ page_after image feed other
 pages_agree limit image feed moves other a b =
     elim (either_way moves other) [
-      inl h ↦ sym (at_most limit image feed moves other h a b)
-    | inr h ↦ at_most limit image feed other moves h b a ]
+      | inl h ↦ sym (at_most limit image feed moves other h a b)
+      | inr h ↦ at_most limit image feed other moves h b a
+    ]

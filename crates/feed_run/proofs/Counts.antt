@@ -1,10 +1,9 @@
 -- The moves of a run, counted.
 use Rattle.std.proofs.Common.{◌≡◌, ◌≤◌, ◌<◌, ◌+◌, ◌-◌, ◌*◌, ◌/◌, ◌%◌, ◌^◌, ℕ, zero, suc, List, length, refl, sym, ap, ◌∙◌, subst, arith, add-one, add-mul}
-use Rattle.pld_base.specs.Events.{words_written}
 use Rattle.pld_base.specs.Pages.{Standing, Going, Ended as HasEnded, Trapped as HasTrapped, Waits}
 use Rattle.rv_core.specs.Core.{machine_of}
-use Rattle.rv_core.specs.Machine.{Machine, Step, Went, AtRead, AtWrite, Ended, Trapped, at_start}
-use Rattle.rv_core.specs.Page.{Page, stands as stands_at, page_on}
+use Rattle.rv_core.specs.Machine.{Step, Went, AtRead, AtWrite, Ended, Trapped, at_start}
+use Rattle.rv_core.specs.Page.{Page, stands as stands_at}
 use Rattle.rv_back.specs.Form.{SoftForm}
 use Rattle.feed_run.specs.declared.run.Progress.{Progress}
 use Rattle.feed_run.specs.declared.run.RunEnd.{RunEnd}
@@ -12,7 +11,7 @@ use Rattle.feed_run.specs.declared.run.RunEnd.TheVariants.{Spent}
 use Rattle.feed_run.specs.declared.run.Move.{Move}
 use Rattle.feed_run.specs.declared.run.Move.TheVariants as made
 use Rattle.feed_run.specs.Measure.{moves_left}
-use Rattle.feed_run.specs.Runs.{on_feed, next_step, moved_on, page_after, steps_among, counted, stands, end_of, end_after, written_after, Stops, IsRun}
+use Rattle.feed_run.specs.Runs.{on_feed, next_step, moved_on, page_after, steps_among, counted, stands, end_of, end_after, Stops, IsRun}
 use Rattle.feed_run.specs.Progress.{Shows, GoesOn, Advanced}
 
 -- ---- one move more

@@ -1,6 +1,6 @@
 -- What one move makes of the page that a core shows.
-use Rattle.std.proofs.Common.{◌≡◌, ◌≤◌, ◌<◌, ◌+◌, ◌/◌, ◌%◌, ◌^◌, ℕ, zero, suc, Bool, true, false, List, [], ◌∷◌, ◌++◌, length, drop, get_or, refl, sym, ap, ◌∙◌, subst, arith, append-nil, add-one, eqb-true}
-use Rattle.std.specs.Prelude.{slice_get, slice_index, nat_eq, if◌then◌else◌, cond, Option, Some, None}
+use Rattle.std.proofs.Common.{◌≡◌, ◌<◌, ◌+◌, ◌/◌, ◌%◌, ◌^◌, ℕ, zero, suc, Bool, true, false, List, [], ◌∷◌, ◌++◌, length, drop, get_or, refl, sym, ap, ◌∙◌, subst, arith, append-nil, add-one}
+use Rattle.std.specs.Prelude.{slice_get, nat_eq, if◌then◌else◌}
 use Rattle.rv_isa.specs.declared.instr.Instr.{Instr}
 use Rattle.std.proofs.Math.Seq.{drop-cons}
 use Rattle.std.proofs.lemmas.Bool.Decides.{nat_tests}
@@ -11,16 +11,16 @@ use Rattle.pld_base.specs.declared.event.StepEnd.{StepEnd}
 use Rattle.pld_base.specs.declared.event.StepEnd.TheVariants as end
 use Rattle.pld_base.specs.Events.{words_written}
 use Rattle.pld_base.specs.Lists.{with, port}
-use Rattle.pld_base.specs.Pages.{Standing, Going, Ended as HasEnded, Trapped as HasTrapped, Waits}
+use Rattle.pld_base.specs.Pages.{Standing, Going, Waits}
 use Rattle.rv_core.specs.Core.{Core, machine_of, step_of, Answers, SameCode}
 use Rattle.rv_core.specs.Machine.{Machine, Step, Went, AtRead, AtWrite, Ended, Trapped, soft_step, next, set_reg, resumed_read, IsAtRead, IsAtWrite}
 use Rattle.rv_core.proofs.Standing.{reads_in_code, writes_in_code}
-use Rattle.rv_core.specs.Page.{Page, move, moved, stands as stands_at, standing, standing_at, take_word}
+use Rattle.rv_core.specs.Page.{Page, moved, stands as stands_at, standing_at, take_word}
 use Rattle.rv_back.specs.Form.{SoftForm}
 use Rattle.feed_run.specs.declared.run.Progress.{Progress}
 use Rattle.feed_run.specs.declared.run.RunEnd.TheVariants.{Done, Stalled}
 use Rattle.feed_run.specs.declared.run.Move.TheVariants as made
-use Rattle.feed_run.specs.Runs.{on_feed, next_step, moved_on, counted, stands, end_of}
+use Rattle.feed_run.specs.Runs.{on_feed, next_step, counted, end_of}
 use Rattle.feed_run.specs.Progress.{Shows, GoesOn, Advanced}
 
 -- ---- what an answer says of the step

@@ -1,12 +1,11 @@
 -- A core on its way through a feed.
 use Rattle.std.specs.Prelude.{◌≡◌, ℕ, ◌+◌, ◌^◌, ◌/◌, ◌%◌, ◌<◌, List, drop, length}
 use Rattle.pld_base.specs.Events.{words_written}
-use Rattle.pld_base.specs.Pages.{Standing, Going}
+use Rattle.pld_base.specs.Pages.{Going}
 use Rattle.rv_core.specs.Core.{machine_of}
-use Rattle.rv_core.specs.Page.{Page, standing}
+use Rattle.rv_core.specs.Page.{Page}
 use Rattle.rv_back.specs.Form.{SoftForm}
 use Rattle.feed_run.specs.Runs.{on_feed, next_step, moved_on, counted, end_of, stands}
-use Rattle.feed_run.specs.declared.run.RunEnd.{RunEnd}
 use Rattle.feed_run.specs.declared.run.Progress.{Progress}
 use Rattle.feed_run.specs.declared.run.Move.{Move}
 use Rattle.feed_run.specs.declared.run.Move.TheVariants as made

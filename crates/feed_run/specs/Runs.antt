@@ -1,6 +1,5 @@
 -- A softcore on one feed, for so many steps.
 use Rattle.std.specs.Prelude.{◌≡◌, ℕ, zero, suc, ◌+◌, ◌≤◌, List, [], slice_get}
-use Rattle.pld_base.specs.declared.event.PortNo.{PortNo}
 use Rattle.pld_base.specs.Events.{words_written}
 use Rattle.pld_base.specs.Lists.{port}
 use Rattle.pld_base.specs.Pages.{Standing, Going, Ended as HasEnded, Trapped as HasTrapped, Waits}

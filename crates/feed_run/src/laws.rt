@@ -8,5 +8,4 @@ ghost use Rattle.feed_run.specs.Runs.{IsRun, end_after, written_after};
 pub fn runs_agree()
     ensures end { (limit : ℕ) (image : SoftForm) (feed : List ℕ) (moves other : ℕ) → IsRun limit image feed moves → IsRun limit image feed other → end_after image feed moves ≡ end_after image feed other }
     ensures written { (limit : ℕ) (image : SoftForm) (feed : List ℕ) (moves other : ℕ) → IsRun limit image feed moves → IsRun limit image feed other → written_after image feed moves ≡ written_after image feed other }
-{
-}
+{}

@@ -1,10 +1,10 @@
 -- What a session has done when it ends, told of the whole program.
-use Rattle.std.specs.Prelude.{◌≡◌, ℕ, ◌≤◌, Bool, true, false, List, [], ◌∷◌, Option, codes}
+use Rattle.std.specs.Prelude.{◌≡◌, ℕ, ◌≤◌, Bool, false, List, [], ◌∷◌, Option, codes}
 use Rattle.std.specs.Str.{bytes_eq}
 use Rattle.std.specs.Io.KnownBytes.{Consumes, Keeps}
 use Rattle.pld_driver.specs.declared.engine.Bench.{Bench}
 use Rattle.pld_driver.specs.declared.status.Status.{Status}
-use Rattle.pld_driver.specs.Outcome.{Outcome, IsExact, IsTooLong}
+use Rattle.pld_driver.specs.Outcome.{Outcome, IsExact}
 use Rattle.pld_session.specs.declared.session.Record.{Record}
 use Rattle.pld_session.specs.States.{at_first}
 use Rattle.pld_session.specs.Answers.{answer, Fits}

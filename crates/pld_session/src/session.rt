@@ -279,7 +279,14 @@ impl Session {
         match (&self.operator, &self.output, &self.feed, &self.image) {
             (Some(added), Some(output), Some(feed), Some(image)) => {
                 let run = run_on(alloc, image, feed.as_slice(), 256 * self.rounds)?;
-                put_run(reply, &added.name, output, self.rounds, run.end, run.written.as_slice())?;
+                put_run(
+                    reply,
+                    &added.name,
+                    output,
+                    self.rounds,
+                    run.end,
+                    run.written.as_slice(),
+                )?;
                 bench.records.push(Record { moves: run.moves })?;
                 self.ran = true;
                 Ok(false)

@@ -1,10 +1,10 @@
 -- How long the code is.
-use Rattle.std.proofs.Common.{◌≡◌, ℕ, Bool, true, false, ◌+◌, ◌*◌, ◌≤◌, List, [], ◌∷◌, ◌++◌, length, arith, length-append}
+use Rattle.std.proofs.Common.{ℕ, Bool, true, false, ◌+◌, ◌*◌, ◌≤◌, List, [], ◌∷◌, ◌++◌, length, arith, length-append}
 use Rattle.rv_isa.specs.declared.instr.Instr.{Instr}
-use Rattle.rv_isa.specs.declared.instr.Instr.TheVariants.{Jal, Lw, Sw, Addi, Ebreak}
-use Rattle.std.specs.Prelude.{pos, if◌then◌else◌}
-use Rattle.pld_ast.specs.Program.{Sign, Signed, Unsigned, Operation1, Keep, Negate, Flip, IsZero, Operation2, EitherOf, BothOf, BitOr, BitXor, BitAnd, Equal, Unequal, Less, AtMost, More, AtLeast, ShiftLeft, ShiftRight, Plus, Minus, Times, Quotient, Remainder, Value, Number, Scalar, Element, Op1, Op2, Action, Skip, Then, Assign, Store, Read, ReadInto, Write, Choose, Repeat, Return}
-use Rattle.rv_back.specs.Code.{neg_of, push, pop, is_in_register, get_scalar, set_scalar, read_scalar, read_at, address, op1_code, op2_code, is_short, set_aside, bring_back, value_code, unless, choose_code, repeat_code, action_code, prologue, soft_code}
+use Rattle.rv_isa.specs.declared.instr.Instr.TheVariants.{Jal, Lw, Sw, Ebreak}
+use Rattle.std.specs.Prelude.{pos, Option, Some, None}
+use Rattle.pld_ast.specs.Program.{Operation1, Keep, Negate, Flip, IsZero, Operation2, EitherOf, BothOf, BitOr, BitXor, BitAnd, Equal, Unequal, Less, AtMost, More, AtLeast, ShiftLeft, ShiftRight, Plus, Minus, Times, Quotient, Remainder, Value, Number, Scalar, Element, Op1, Op2, Action, Skip, Then, Assign, Store, Read, ReadInto, Write, Choose, Repeat, Return}
+use Rattle.rv_back.specs.Code.{neg_of, push, pop, register_at, get_from, set_to, read_from, set_scalar, read_at, address, op1_code, op2_code, is_short, set_aside, bring_back, value_code, unless, action_code, prologue}
 use Rattle.pld_ast.specs.Nodes.{value_nodes, action_nodes}
 
 op1_short : (o : Operation1) → length (op1_code o) ≤ 1
@@ -33,26 +33,17 @@ op2_short Times = omega arith
 op2_short (Quotient g) = omega arith
 op2_short (Remainder g) = omega arith
 
-get_short : (s : ℕ) → length (get_scalar s) ≤ 1
-get_short s = by_test (is_in_register s)
-  where
-  by_test : (t : Bool) → length (if t then Addi 10 (12 + s) (pos 0) ∷ [] else Lw 10 8 (pos (4 * s)) ∷ []) ≤ 1
-  by_test true = omega arith
-  by_test false = omega arith
+get_short : (r : Option ℕ) (s : ℕ) → length (get_from r s) ≤ 1
+get_short (Some r) s = omega arith
+get_short None s = omega arith
 
-set_short : (s : ℕ) → length (set_scalar s) ≤ 1
-set_short s = by_test (is_in_register s)
-  where
-  by_test : (t : Bool) → length (if t then Addi (12 + s) 10 (pos 0) ∷ [] else Sw 8 10 (pos (4 * s)) ∷ []) ≤ 1
-  by_test true = omega arith
-  by_test false = omega arith
+set_short : (r : Option ℕ) (s : ℕ) → length (set_to r s) ≤ 1
+set_short (Some r) s = omega arith
+set_short None s = omega arith
 
-read_short : (s q : ℕ) → length (read_scalar s q) ≤ 2
-read_short s q = by_test (is_in_register s)
-  where
-  by_test : (t : Bool) → length (if t then Lw (12 + s) 9 (pos (4 * q)) ∷ [] else Lw 10 9 (pos (4 * q)) ∷ Sw 8 10 (pos (4 * s)) ∷ []) ≤ 2
-  by_test true = omega arith
-  by_test false = omega arith
+read_short : (r : Option ℕ) (s q : ℕ) → length (read_from r s q) ≤ 2
+read_short (Some r) s q = omega arith
+read_short None s q = omega arith
 
 aside_short : (t : Bool) → length (set_aside t) ≤ 2
 aside_short true = omega arith
@@ -67,7 +58,7 @@ both_short a x b y o m n ha hx hb hy ho = omega (arith, length-append a (x ++ (b
 
 pub value_short : (l : List ℕ) (e : Value) → length (value_code l e) ≤ 8 * value_nodes e
 value_short l (Number v) = omega arith
-value_short l (Scalar s) = omega (arith, get_short s)
+value_short l (Scalar s) = omega (arith, get_short (register_at s) s)
 value_short l (Element t e) = omega (arith, value_short l e, length-append (value_code l e) (address l t ++ Lw 10 10 (pos 0) ∷ []))
 value_short l (Op1 o a) = omega (arith, value_short l a, op1_short o, length-append (value_code l a) (op1_code o))
 value_short l (Op2 o a b) = both_short _ _ _ _ _ (value_nodes a) (value_nodes b) (value_short l a) (aside_short (is_short b)) (value_short l b) (back_short (is_short b)) (op2_short o)
@@ -75,10 +66,10 @@ value_short l (Op2 o a b) = both_short _ _ _ _ _ (value_nodes a) (value_nodes b)
 pub action_short : (l : List ℕ) (a : Action) → length (action_code l a) ≤ 12 * action_nodes a
 action_short l Skip = omega arith
 action_short l (Then a b) = omega (arith, action_short l a, action_short l b, length-append (action_code l a) (action_code l b))
-action_short l (Assign s e) = omega (arith, value_short l e, set_short s, length-append (value_code l e) (set_scalar s))
+action_short l (Assign s e) = omega (arith, value_short l e, set_short (register_at s) s, length-append (value_code l e) (set_scalar s))
 action_short l (Store t i e) =
     omega (arith, value_short l i, value_short l e, length-append (value_code l i) (address l t ++ (push ++ (value_code l e ++ (pop ++ Sw 11 10 (pos 0) ∷ [])))), length-append (value_code l e) (pop ++ Sw 11 10 (pos 0) ∷ []))
-action_short l (Read s q) = omega (arith, read_short s q)
+action_short l (Read s q) = omega (arith, read_short (register_at s) s q)
 action_short l (ReadInto t i q) =
     omega (arith, value_short l i, length-append (value_code l i) (address l t ++ read_at q))
 action_short l (Write q e) = omega (arith, value_short l e, length-append (value_code l e) (Sw 9 10 (pos (256 + 4 * q)) ∷ []))

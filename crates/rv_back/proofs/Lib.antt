@@ -1,3 +1,4 @@
+pub mod Example
 pub mod Lengths
 pub mod Parts
 pub mod Whole

@@ -1,6 +1,6 @@
 -- The softcore's code for a program. Values are computed in x10, with x11 beside it. x8 has the place of
 -- the RAM, x9 that of the ports, and x2 that of the next word to be pushed.
-use Rattle.std.specs.Prelude.{ℕ, zero, suc, ◌+◌, ◌-◌, ◌*◌, ◌/◌, ◌%◌, ◌^◌, ℤ, pos, negsuc, List, [], ◌∷◌, ◌++◌, length, sum, take, slice_index, Bool, true, false, nat_lt, if◌then◌else◌}
+use Rattle.std.specs.Prelude.{ℕ, zero, suc, ◌+◌, ◌-◌, ◌*◌, ◌/◌, ◌%◌, ◌^◌, ℤ, pos, negsuc, List, [], ◌∷◌, ◌++◌, Option, Some, None, length, sum, take, slice_index, Bool, true, false, nat_lt, if◌then◌else◌}
 use Rattle.rv_isa.specs.declared.instr.Instr.{Instr}
 use Rattle.rv_isa.specs.declared.instr.Instr.TheVariants.{Lui, Jal, Bne, Lw, Sw, Addi, Sltiu, Xori, Slli, Add, Sub, Sll, Slt, Sltu, Xor, Srl, Sra, Or, And, Mul, Div, Divu, Rem, Remu, Ebreak}
 use Rattle.pld_ast.specs.Program.{Sign, Signed, Unsigned, Operation1, Keep, Negate, Flip, IsZero, Operation2, EitherOf, BothOf, BitOr, BitXor, BitAnd, Equal, Unequal, Less, AtMost, More, AtLeast, ShiftLeft, ShiftRight, Plus, Minus, Times, Quotient, Remainder, Value, Number, Scalar, Element, Op1, Op2, Action, Skip, Then, Assign, Store, Read, ReadInto, Write, Choose, Repeat, Return, Program}
@@ -31,20 +31,35 @@ abbrev pub pop : List Instr
 pop = Addi 2 2 (negsuc 3) ∷ Lw 11 2 (pos 0) ∷ []
 
 -- the scalars below 20 stand in the registers from x12 on, the others in the RAM, each at its own number
-abbrev pub is_in_register : ℕ → Bool
-is_in_register s = nat_lt s 20
+abbrev pub register_at : ℕ → Option ℕ
+register_at s = if nat_lt s 20 then Some (12 + s) else None
+
+-- a scalar, which stands there, into x10
+abbrev pub get_from : Option ℕ → ℕ → List Instr
+get_from (Some r) s = Addi 10 r (pos 0) ∷ []
+get_from None s = Lw 10 8 (pos (4 * s)) ∷ []
+
+-- x10 into a scalar, which stands there
+abbrev pub set_to : Option ℕ → ℕ → List Instr
+set_to (Some r) s = Addi r 10 (pos 0) ∷ []
+set_to None s = Sw 8 10 (pos (4 * s)) ∷ []
+
+-- a word of an in-port into a scalar, which stands there
+abbrev pub read_from : Option ℕ → ℕ → ℕ → List Instr
+read_from (Some r) s q = Lw r 9 (pos (4 * q)) ∷ []
+read_from None s q = Lw 10 9 (pos (4 * q)) ∷ Sw 8 10 (pos (4 * s)) ∷ []
 
 -- a scalar into x10
 abbrev pub get_scalar : ℕ → List Instr
-get_scalar s = if is_in_register s then Addi 10 (12 + s) (pos 0) ∷ [] else Lw 10 8 (pos (4 * s)) ∷ []
+get_scalar s = get_from (register_at s) s
 
 -- x10 into a scalar
 abbrev pub set_scalar : ℕ → List Instr
-set_scalar s = if is_in_register s then Addi (12 + s) 10 (pos 0) ∷ [] else Sw 8 10 (pos (4 * s)) ∷ []
+set_scalar s = set_to (register_at s) s
 
 -- a word of an in-port into a scalar
 abbrev pub read_scalar : ℕ → ℕ → List Instr
-read_scalar s q = if is_in_register s then Lw (12 + s) 9 (pos (4 * q)) ∷ [] else Lw 10 9 (pos (4 * q)) ∷ Sw 8 10 (pos (4 * s)) ∷ []
+read_scalar s q = read_from (register_at s) s q
 
 -- the word of the RAM at which an array begins: after 64 scalars and the arrays before it
 abbrev pub base_of : List ℕ → ℕ → ℕ

@@ -1,5 +1,5 @@
 -- An operator compiled for a softcore, and the code of its parts.
-use Rattle.std.specs.Prelude.{ℕ, ◌≤◌, List, map, filter, length, sum}
+use Rattle.std.specs.Prelude.{ℕ, ◌≤◌, List, map, filter, sum}
 use Rattle.pld_base.specs.declared.event.Side.{Side}
 use Rattle.pld_base.specs.declared.event.Side.TheVariants.{In, Out}
 use Rattle.pld_ast.specs.declared.tree.Expr.{Expr}

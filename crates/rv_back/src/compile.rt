@@ -28,3 +28,69 @@ pub fn compile_soft(alloc: Global, permit: Permit, op: &Operator) -> Result<Imag
     let outs = count_outs(ports) as u8;
     Ok(Image::new(ins, outs, code))
 }
+
+#[cfg(test)]
+mod tests {
+    use super::*;
+    use pld_ast::{BinOp, Expr, Port, Scalar, Stmt, Target, Ty, Used};
+    use pld_base::{Name, Permits, Place, PortNo, Side, StepEnd};
+    use sqlite_items::{Boxed, Items};
+    use std::test::Fail;
+
+    // void f(out b) { int32_t x; x = x + 1; write(b, x); }
+    fn next_number(alloc: Global, f: Name, b: Name, x: Name) -> Result<Operator, NoMemory>
+        ensures { IfOk result (λ op. IsStraight op) }
+    {
+        let at = Place { line: 1, column: 1 };
+        let left = Boxed::new(alloc, Expr::Var(Used { name: x, at }))?;
+        let right = Boxed::new(alloc, Expr::Lit(1, Ty::Int))?;
+        let sum = Expr::Binary(BinOp::Add, left, right);
+        let mut body = Items::new(alloc);
+        body.push(Stmt::Assign(Target::Scalar(Used { name: x, at }), sum))?;
+        body.push(Stmt::Write(Used { name: b, at }, Expr::Var(Used { name: x, at })))?;
+        let port = Port {
+            name: b,
+            side: Side::Out,
+            at,
+        };
+        let scalar = Scalar {
+            name: x,
+            ty: Ty::Int,
+            at,
+        };
+        let ports = Items::from_slice(alloc, &[port])?;
+        let scalars = Items::from_slice(alloc, &[scalar])?;
+        let arrays = Items::new(alloc);
+        Ok(Operator {
+            name: f,
+            at,
+            ports,
+            scalars,
+            arrays,
+            body,
+        })
+    }
+
+    #[test]
+    fn writes_the_next_number(rt: HostRuntime) -> Result<(), Fail> {
+        let alloc = rt.alloc();
+        let f = Name::of(b"f").ok_or("no name")?;
+        let b = Name::of(b"b").ok_or("no name")?;
+        let x = Name::of(b"x").ok_or("no name")?;
+        let op = next_number(alloc, f, b, x)?;
+        let permit = Permits::new().issue(alloc, 1)?.pop().ok_or("no permit")?;
+        let image = compile_soft(alloc, permit, &op)?;
+        assert_eq!(rt; image.code().len(), 13);
+        let mut core = image.load(alloc)?;
+        for _ in 0..11 {
+            assert_eq!(rt; core.step(), StepEnd::Went);
+        }
+        if let StepEnd::AtWrite(port, word) = core.step() {
+            assert_eq!(rt; port, PortNo(0));
+            assert_eq!(rt; word, 1);
+            core.resume_write();
+        }
+        assert_eq!(rt; core.step(), StepEnd::Ended);
+        Ok(())
+    }
+}

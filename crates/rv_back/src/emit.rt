@@ -39,7 +39,14 @@ fn put_address(code: &mut Vec<Instr>, arrays: &[Array], t: usize) -> Result<(), 
     let rs2 = Reg::new(11);
     put_const(code, rs2, length_of(arrays, t))?;
     put(code, Instr::Remu { rd, rs1: rd, rs2 })?;
-    put(code, Instr::Slli { rd, rs1: rd, by: Shift::new(2) })?;
+    put(
+        code,
+        Instr::Slli {
+            rd,
+            rs1: rd,
+            by: Shift::new(2),
+        },
+    )?;
     put_const(code, rs2, 0x2_0000 + 4 * base_of(arrays, t))?;
     put(code, Instr::Add { rd, rs1: rd, rs2 })
 }

@@ -1,4 +1,4 @@
-use Rattle.std.proofs.Common.{◌+◌, ◌-◌, ◌∙◌, ap, sym, refl, arith, length, zero-add}
+use Rattle.std.proofs.Common.{◌+◌, ◌∙◌, ap, refl, arith, length, zero-add}
 use Rattle.feed_run.proofs.Counts.{shows_first, steps_first, left_first, run_stands, run_spent, spent_end, was_step, was_operation, it_stands, kept_step, kept_operation, step_falls, operation_falls}
 use Rattle.feed_run.proofs.run.run_on.Goals as goal
 

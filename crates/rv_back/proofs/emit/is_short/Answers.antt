@@ -1,6 +1,3 @@
-use Rattle.std.proofs.Common.{sym, ap, ◌∙◌}
-use Rattle.pld_ast.specs.Resolve.{value_in}
-use Rattle.rv_back.specs.Code.{is_short}
 use Rattle.rv_back.proofs.Parts.{short_element, short_unary, short_binary, short_cast}
 use Rattle.rv_back.proofs.emit.is_short.Goals as goal
 
