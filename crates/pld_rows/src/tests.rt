@@ -89,16 +89,26 @@ fn answers_each_statement(rt: HostRuntime) -> Result<(), Fail> {
 /// A program of 600 instructions: one round allows 256 of them.
 #[test]
 fn spends_its_steps(rt: HostRuntime) -> Result<(), Fail> {
-    let mut text = b"op f soft\nvoid f(in a, out b) { int32_t x; write(b, 7);\n".to_vec(rt.alloc())?;
+    let mut text = b"op f soft\nvoid f(in a, out b) { int32_t x; write(b, 7);\n".to_vec(
+        rt.alloc(),
+    )?;
     for _ in 0..100 {
         text.extend_from_slice(b"x = x + 1;\n")?;
     }
-    text.extend_from_slice(b"write(b, x); }\nend\ninput s f.i0\noutput f.o0 y\nfeed s\nbuild\nrun\n")?;
+    text.extend_from_slice(
+        b"write(b, x); }\nend\ninput s f.i0\noutput f.o0 y\nfeed s\nbuild\nrun\n",
+    )?;
     let (status, sink, _) = run(&rt, text.as_slice(), 1, 4096, (0, 0))?;
     assert_eq!(rt; status, Status::Fine);
-    assert_eq!(rt; sink.bytes(), b"ok\nok\nok\nok\nbuilt 1 compiled 1\nspent 1\nout y 1 7\n".as_slice());
+    assert_eq!(rt;
+        sink.bytes(),
+        b"ok\nok\nok\nok\nbuilt 1 compiled 1\nspent 1\nout y 1 7\n".as_slice()
+    );
     let (_, sink, _) = run(&rt, text.as_slice(), 3, 4096, (0, 0))?;
-    assert_eq!(rt; sink.bytes(), b"ok\nok\nok\nok\nbuilt 1 compiled 1\ndone\nout y 2 7 100\n".as_slice());
+    assert_eq!(rt;
+        sink.bytes(),
+        b"ok\nok\nok\nok\nbuilt 1 compiled 1\ndone\nout y 2 7 100\n".as_slice()
+    );
     Ok(())
 }
 
@@ -145,7 +155,13 @@ fn takes_one_command(rt: HostRuntime) -> Result<(), Fail> {
         let mut source = MemSource::new(b"hello".to_vec(rt.alloc())?, no_fails, 4096);
         let mut sink = MemSink::new(rt.alloc(), Vec::new(rt.alloc()), 1000)?;
         let mut bench = Bench::new(rt.alloc());
-        let status = pld(rt.alloc(), words.as_slice(), &mut source, &mut sink, &mut bench);
+        let status = pld(
+            rt.alloc(),
+            words.as_slice(),
+            &mut source,
+            &mut sink,
+            &mut bench,
+        );
         assert_eq!(rt; status, row.1);
         assert_eq!(rt; sink.bytes().is_empty(), status == Status::Usage);
     }
