@@ -85,7 +85,7 @@ unfolding statements
 no_assign scope x (Mark Assign ∷ ts) h = absurd (h ts refl)
 no_assign scope x _ h = refl
 
-an_assign : (scope : Scope) (x : List ℕ) (ts : List Token) → BeginsOtherwise Read ts → statements scope (Name x ∷ Mark Assign ∷ ts) ≡ only_if (is_declared scope x) (operand scope (ForAssign x) Nothing [] ts)
+pub an_assign : (scope : Scope) (x : List ℕ) (ts : List Token) → BeginsOtherwise Read ts → statements scope (Name x ∷ Mark Assign ∷ ts) ≡ only_if (is_declared scope x) (operand scope (ForAssign x) Nothing [] ts)
 unfolding statements
 an_assign scope x (Mark Read ∷ ts) h = absurd (h ts refl)
 an_assign scope x _ h = refl
@@ -109,7 +109,7 @@ unended scope x v _ p m c = refl
 pub assign_unended : (scope : Scope) (x : List ℕ) (v : Expr) (ts a b : List Token) → ts ≡ Mark Assign ∷ a → BeginsOtherwise Read a → is_declared scope x ≡ true → IsExpression scope a v b → BeginsOtherwise Semicolon b → statements scope (Name x ∷ ts) ≡ None
 assign_unended scope x v ts a b e h d i n = assign_begins scope x ts a e h d ∙ i.goes (ForAssign x) [] ∙ unended scope x v b i.ended.0 i.ended.1 n
 
-assign_ends : (scope : Scope) (x : List ℕ) (v : Expr) (rest : List Token) → after scope (ForAssign x) [] v (Mark Semicolon ∷ rest) ≡ prefixed (stmt.Assign (target.Scalar (used_of x)) v) (statements scope rest)
+pub assign_ends : (scope : Scope) (x : List ℕ) (v : Expr) (rest : List Token) → after scope (ForAssign x) [] v (Mark Semicolon ∷ rest) ≡ prefixed (stmt.Assign (target.Scalar (used_of x)) v) (statements scope rest)
 unfolding after
 assign_ends scope x v rest = refl
 
@@ -148,7 +148,7 @@ no_write_name scope ts a e h = ap (λ y. statements scope (Mark Write ∷ y)) e 
 pub no_write_comma : (scope : Scope) (p : List ℕ) (ts a b : List Token) → ts ≡ Mark Open ∷ a → a ≡ Name p ∷ b → BeginsOtherwise Comma b → statements scope (Mark Write ∷ ts) ≡ None
 no_write_comma scope p ts a b e f h = ap (λ y. statements scope (Mark Write ∷ y)) (e ∙ ap (λ y. Mark Open ∷ y) f) ∙ write_comma scope p b h
 
-write_goes : (scope : Scope) (p : List ℕ) (ts rest : List Token) → ts ≡ Mark Open ∷ Name p ∷ Mark Comma ∷ rest → statements scope (Mark Write ∷ ts) ≡ only_if (bytes_eq scope.output p) (operand scope (ForWrite p) Nothing [] rest)
+pub write_goes : (scope : Scope) (p : List ℕ) (ts rest : List Token) → ts ≡ Mark Open ∷ Name p ∷ Mark Comma ∷ rest → statements scope (Mark Write ∷ ts) ≡ only_if (bytes_eq scope.output p) (operand scope (ForWrite p) Nothing [] rest)
 unfolding statements
 write_goes scope p ts rest e = ap (λ y. statements scope (Mark Write ∷ y)) e
 
@@ -176,7 +176,7 @@ unfolding after
 unended_write scope p v (Mark Semicolon ∷ ts) c = absurd (c ts refl)
 unended_write scope p v _ c = refl
 
-write_ends : (scope : Scope) (p : List ℕ) (v : Expr) (rest : List Token) → after scope (ForWrite p) [] v (Mark Close ∷ Mark Semicolon ∷ rest) ≡ prefixed (stmt.Write (used_of p) v) (statements scope rest)
+pub write_ends : (scope : Scope) (p : List ℕ) (v : Expr) (rest : List Token) → after scope (ForWrite p) [] v (Mark Close ∷ Mark Semicolon ∷ rest) ≡ prefixed (stmt.Write (used_of p) v) (statements scope rest)
 unfolding after
 write_ends scope p v rest = refl
 

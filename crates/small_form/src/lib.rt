@@ -4,8 +4,10 @@
 
 mod expression;
 mod form;
+mod laws;
 mod scope;
 mod statement;
 mod token;
 
 pub use form::read_form;
+pub use laws::texts_are_of_the_grammar;
