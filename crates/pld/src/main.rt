@@ -1,6 +1,9 @@
 //! The program: runs the command that its words say, from standard input to standard output.
 #![tactic(auto)]
 
+ghost use Rattle.std.specs.Prelude.{◌≡◌, Some, None, MatchOption};
+ghost use Rattle.pld.specs.Lines.{line_of};
+
 use pld_io::{ReadSource, WriteSink};
 use pld_session::{Bench, Status, pld};
 use std::process::ExitCode;
@@ -40,7 +43,9 @@ fn command<R: Env + Input + Print + AllocGlobal>(rt: &R) -> Status {
 }
 
 /// What standard error says of a status, if it says anything.
-fn message(status: Status) -> Option<&'static str> {
+fn message(status: Status) -> Option<&'static str>
+    ensures { MatchOption result (line_of status ≡ None) (λ line. line_of status ≡ Some line.now) }
+{
     match status {
         Status::Fine | Status::SomeRefused => None,
         Status::Usage => Some("pld: usage: pld plain|work --workers K|big N [--rounds N]"),
@@ -58,3 +63,6 @@ fn main(rt: HostRuntime) -> ExitCode {
     }
     ExitCode::from(status.number())
 }
+
+#[cfg(test)]
+mod tests;

@@ -3,3 +3,4 @@ pub mod Replies
 pub mod States
 pub mod Steps
 pub mod Headline
+pub mod Laws

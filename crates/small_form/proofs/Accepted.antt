@@ -1,5 +1,5 @@
 -- What is a text by the grammar is read.
-use Rattle.std.proofs.Common.{ℕ, ◌≡◌, refl, sym, ◌∙◌, ap, List, [], ◌∷◌, Option, Some, None, Bool, true, false, ◌&&◌}
+use Rattle.std.proofs.Common.{ℕ, ◌≡◌, refl, ◌∙◌, ap, List, [], ◌∷◌, Option, Some, None, Bool, true, ◌&&◌}
 use Rattle.std.specs.Prelude.{if◌then◌else◌}
 use Rattle.std.specs.Str.{bytes_eq}
 use Rattle.pld_ast.specs.declared.tree.BinOp.{BinOp}
@@ -11,7 +11,7 @@ use Rattle.pld_ast.specs.declared.tree.Operator.{Operator}
 use Rattle.small_form.specs.declared.token.Token.{Token}
 use Rattle.small_form.specs.declared.token.Token.TheVariants.{Name, Number, Mark}
 use Rattle.small_form.specs.declared.token.Mark as a
-use Rattle.small_form.specs.declared.token.Mark.TheVariants.{Int, Read, Open, Close, Semicolon, Assign, Plus, Minus, CloseBrace}
+use Rattle.small_form.specs.declared.token.Mark.TheVariants.{Int, Read, Open, Close, Semicolon, Assign, CloseBrace}
 use Rattle.small_form.specs.declared.scope.Scope.{Scope}
 use Rattle.small_form.specs.Form as form
 use Rattle.small_form.specs.Form.{used_of, is_declared, is_taken, only_if, prefixed, scope_of, with_scalar, operator_with, Left, Nothing, Behind, joined, Hole, ForAssign, ForWrite, operand, after, declarations, operator_in}

@@ -1,9 +1,8 @@
 -- What is read is a text by the grammar.
-use Rattle.std.proofs.Common.{ℕ, zero, suc, ◌+◌, ◌<◌, ◌≤◌, ◌≡◌, refl, sym, ◌∙◌, ap, subst, List, [], ◌∷◌, length, Option, Some, None, Bool, true, false, ◌&&◌, arith}
+use Rattle.std.proofs.Common.{ℕ, zero, suc, ◌<◌, ◌≤◌, ◌≡◌, refl, sym, ◌∙◌, ap, subst, List, [], ◌∷◌, length, Option, Some, None, Bool, true, false, ◌&&◌, arith}
 use Rattle.std.specs.Prelude.{if◌then◌else◌}
 use Rattle.std.specs.Str.{bytes_eq}
 use Rattle.pld_ast.specs.declared.tree.Ty.TheVariants as ty
-use Rattle.pld_ast.specs.declared.tree.BinOp.{BinOp}
 use Rattle.pld_ast.specs.declared.tree.BinOp.TheVariants.{Add, Sub}
 use Rattle.pld_ast.specs.declared.tree.Expr.{Expr}
 use Rattle.pld_ast.specs.declared.tree.Expr.TheVariants.{Lit, Var, Binary}
@@ -17,7 +16,7 @@ use Rattle.small_form.specs.declared.token.Mark.TheVariants.{Void, In, Out, Int,
 use Rattle.small_form.specs.declared.scope.Scope.{Scope}
 use Rattle.small_form.specs.Form as form
 use Rattle.small_form.specs.Form.{used_of, is_declared, is_taken, only_if, prefixed, scope_of, with_scalar, operator_with, Left, Nothing, Behind, joined, Hole, ForAssign, ForWrite, operand, after, declarations, operator_in}
-use Rattle.small_form.specs.Parts.{BeginsOtherwise, NoOperator, IsOperator, plus, minus}
+use Rattle.small_form.specs.Parts.{NoOperator, plus, minus}
 use Rattle.small_form.specs.Grammar.{IsTerm, number, scalar, group, IsSum, term, more, AreStatements, none, read, assign, write, IsRest, statements, declare, IsText, text}
 
 -- ---- what a choice that gave something chose
@@ -102,6 +101,7 @@ tail_below n t ts h = omega arith
 
 mutual
   unfolding operand after
+
   term_found : (n : ℕ) (scope : Scope) (hole : Hole) (left : Left) (stack : List Left) (ts : List Token) (body : List Stmt) → length ts ≤ n → operand scope hole left stack ts ≡ Some body
       → TermFound scope hole left stack ts body
   term_found n scope hole left stack [] body w h = cc
@@ -233,7 +233,6 @@ none_found scope body h = let P : List Stmt → Type 0 = λ b. AreStatements sco
   where
     some_is : (b : List Stmt) → Some [] ≡ Some b → [] ≡ b
     some_is b e = cc
-
 
 -- `x = ..`: a read, or an assignment
 assigned : (n : ℕ) (scope : Scope) (x : List ℕ) (ts : List Token) (body : List Stmt) → length (Name x ∷ Mark Assign ∷ ts) ≤ suc n → form.statements scope (Name x ∷ Mark Assign ∷ ts) ≡ Some body

@@ -10,5 +10,4 @@ ghost use Rattle.small_form.specs.Grammar.{IsText};
 pub fn texts_are_of_the_grammar()
     ensures found { (tokens : List Token) (op : Operator) → operator_in tokens ≡ Some op → IsText tokens op }
     ensures all { (tokens : List Token) (op : Operator) → IsText tokens op → operator_in tokens ≡ Some op }
-{
-}
+{}

@@ -1,3 +1,5 @@
+//! Whole sessions, run over sources and sinks in memory. What the replies must be is written by hand.
+
 use pld_io::{MemSink, MemSource};
 use pld_session::{Bench, Options, Status, pld, pld_plain};
 use std::test::Fail;

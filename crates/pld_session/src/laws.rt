@@ -1,0 +1,13 @@
+//! What holds of every session.
+
+ghost use Rattle.pld_session.specs.Laws.{RepliesAgree};
+
+use feed_run::runs_agree;
+
+/// The replies to a text don't depend on the records of its runs, as long as each fits: what a
+/// session writes is decided by its text and its rounds.
+pub fn replies_agree()
+    ensures { RepliesAgree }
+{
+    runs_agree();
+}
