@@ -1,2 +1,5 @@
 pub mod Counts
 pub mod Views
+pub mod Grows
+pub mod ReadLaws
+pub mod TraceLaws

@@ -2,3 +2,4 @@ pub mod Nodes
 pub mod Program
 pub mod Resolve
 pub mod Straight
+pub mod Meaning

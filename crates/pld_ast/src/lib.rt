@@ -1,9 +1,11 @@
 //! An operator's text as a tree, and its names looked up.
 #![tactic(auto)]
 
+mod laws;
 mod lookup;
 mod nodes;
 mod tree;
 
+pub use laws::operators_are_processes;
 pub use lookup::{scalar_place, type_in, type_of_array, type_of_scalar};
 pub use tree::{Array, BinOp, Expr, Operator, Port, Scalar, Stmt, Target, Ty, UnOp, Used};

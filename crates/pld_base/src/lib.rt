@@ -7,6 +7,7 @@ mod fault;
 mod memory;
 mod name;
 mod permit;
+mod process;
 pub mod words;
 
 pub use event::{End, Event, Kind, PageId, Place, PortNo, RoundNo, Side, StepEnd};
@@ -14,3 +15,4 @@ pub use fault::{FaultKind, Limit, SourceFault};
 pub use memory::{NoMemory, Refused};
 pub use name::Name;
 pub use permit::{Permit, Permits};
+pub use process::{machines_are_processes, single_events_keep_window};
