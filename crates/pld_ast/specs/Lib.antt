@@ -3,3 +3,4 @@ pub mod Program
 pub mod Resolve
 pub mod Straight
 pub mod Meaning
+pub mod Sound

@@ -1,7 +1,8 @@
 -- What an operator does, seen from outside: its traces on finite inputs, and the laws of a process with blocking reads.
-use Rattle.std.specs.Prelude.{◌≡◌, ◌≢◌, ℕ, ◌≤◌, List, [], ◌∷◌, ◌++◌, ◌⊎◌, ◌==◌, if◌then◌else◌}
+use Rattle.std.specs.Prelude.{◌≡◌, ◌≢◌, ℕ, ◌≤◌, List, [], ◌∷◌, ◌++◌, ◌⊎◌, All}
 use Rattle.pld_base.specs.Prefix.{IsPrefixOf}
-use Rattle.pld_base.specs.Events.{words_read}
+use Rattle.pld_base.specs.Events.{words_read, words_written}
+use Rattle.pld_base.specs.Words.{IsWord}
 use Rattle.pld_base.specs.declared.event.Event.{Event}
 use Rattle.pld_base.specs.declared.event.Event.TheVariants.{Read, Write}
 
@@ -23,6 +24,14 @@ Inputs = ℕ → List ℕ
 -- a process gives its trace on these inputs, with so many turns
 abbrev pub Process : Type 0
 Process = Inputs → ℕ → Trace
+
+-- the inputs are words
+abbrev pub AreWords : Inputs → Type 0
+AreWords ins = (port : ℕ) → All IsWord (ins port)
+
+-- on words, whatever is written at a port is a word
+abbrev pub WritesWords : Process → Type 0
+WritesWords trace = (ins : Inputs) → AreWords ins → (turns port : ℕ) → All IsWord (words_written (trace ins turns).events port)
 
 -- each in-port has the same words, and maybe more after them
 abbrev pub IsExtendedBy : Inputs → Inputs → Type 0

@@ -1,10 +1,10 @@
 -- An image that keeps up with its operator realises it.
 use Rattle.std.proofs.Common.{◌≡◌, ◌≢◌, ℕ, ◌+◌, ◌≤◌, List, refl, sym, ap, ◌∙◌, arith}
 use Rattle.pld_base.specs.Prefix.{IsPrefixOf}
-use Rattle.pld_base.specs.Process.{TraceEnd, Returned, Starved, Cut, Process, IsProcess, Inputs}
+use Rattle.pld_base.specs.Process.{AreWords, TraceEnd, Returned, Starved, Cut, Process, IsProcess, Inputs}
 use Rattle.pld_base.proofs.Prefixes.{prefix_of_eq, prefix_trans}
 use Rattle.pld_base.specs.declared.event.Event.{Event}
-use Rattle.pld_kahn.specs.Realises.{AreWords, CanEnd, Realises, KeepsUp}
+use Rattle.pld_kahn.specs.Realises.{CanEnd, Realises, KeepsUp}
 
 module _ (image operator : Process) (grows : IsProcess image) (keeps : KeepsUp image operator) (ins : Inputs) (words : AreWords ins) where
   -- where the operator isn't cut after t turns, the image has stopped for good

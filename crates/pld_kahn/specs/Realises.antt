@@ -1,12 +1,8 @@
 -- An image does what its operator means.
-use Rattle.std.specs.Prelude.{◌≡◌, ℕ, ◌≤◌, ◌<◌, ◌^◌, ◌↔◌, List, All}
+use Rattle.std.specs.Prelude.{◌≡◌, ℕ, ◌≤◌, ◌↔◌, List}
 use Rattle.pld_base.specs.Prefix.{IsPrefixOf}
-use Rattle.pld_base.specs.Process.{TraceEnd, Returned, Starved, Cut, Inputs, Process}
+use Rattle.pld_base.specs.Process.{TraceEnd, Returned, Starved, Cut, Inputs, Process, AreWords}
 use Rattle.pld_base.specs.declared.event.Event.{Event}
-
--- the inputs are words
-abbrev pub AreWords : Inputs → Type 0
-AreWords ins = (port : ℕ) → All (λ word. word < 2 ^ 32) (ins port)
 
 -- with some number of turns the process has just these events and this end
 abbrev pub CanEnd : Process → Inputs → List Event → TraceEnd → Type 0

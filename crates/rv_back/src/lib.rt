@@ -4,8 +4,10 @@
 mod compile;
 mod emit;
 mod image;
+mod laws;
 mod places;
 mod templates;
 
 pub use compile::compile_soft;
+pub use laws::code_keeps_the_meaning;
 pub use image::Image;
