@@ -35,6 +35,11 @@ abbrev pub is_out : Side → Bool
 is_out In = false
 is_out Out = true
 
+-- the names of the ports of one side, in their order
+abbrev pub ports_at : Side → List Port → List (List ℕ)
+ports_at In ports = map (λ q. q.name) (filter (λ q. is_in q.side) ports)
+ports_at Out ports = map (λ q. q.name) (filter (λ q. is_out q.side) ports)
+
 -- the declarations of an operator
 pub record Names : Type 0 where
   pub ins : List (List ℕ)
@@ -44,8 +49,8 @@ pub record Names : Type 0 where
 
 abbrev pub names_of : List Port → List Scalar → List Array → Names
 names_of ports scalars arrays = record {
-  ins = map (λ q. q.name) (filter (λ q. is_in q.side) ports);
-  outs = map (λ q. q.name) (filter (λ q. is_out q.side) ports);
+  ins = ports_at In ports;
+  outs = ports_at Out ports;
   scalars = scalars;
   arrays = arrays;
 }

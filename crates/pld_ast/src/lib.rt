@@ -4,8 +4,10 @@
 mod laws;
 mod lookup;
 mod nodes;
+mod places;
 mod tree;
 
 pub use laws::operators_are_processes;
 pub use lookup::{scalar_place, type_in, type_of_array, type_of_scalar};
+pub use places::{array_place, count_ins, count_outs, in_place, out_place};
 pub use tree::{Array, BinOp, Expr, Operator, Port, Scalar, Stmt, Target, Ty, UnOp, Used};

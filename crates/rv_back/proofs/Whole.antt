@@ -7,12 +7,12 @@ use Rattle.pld_base.specs.declared.event.Side.TheVariants.{In, Out}
 use Rattle.pld_ast.specs.declared.tree.Port.{Port}
 use Rattle.pld_ast.specs.declared.tree.Stmt.{Stmt}
 use Rattle.pld_ast.specs.declared.tree.Operator.{Operator}
-use Rattle.pld_ast.specs.Resolve.{is_in, is_out, program_of}
+use Rattle.pld_ast.specs.Resolve.{is_in, is_out, ports_at, program_of}
 use Rattle.pld_ast.specs.Straight.{IsStraight}
 use Rattle.rv_isa.specs.declared.instr.Instr.{Instr}
 use Rattle.rv_isa.specs.declared.instr.Instr.TheVariants.{Ebreak}
 use Rattle.rv_back.specs.Code.{prologue, soft_code}
-use Rattle.rv_back.specs.Form.{SoftForm, soft_form, ports_at, block_code}
+use Rattle.rv_back.specs.Form.{SoftForm, soft_form, block_code}
 use Rattle.rv_back.proofs.Lengths.{program_short}
 use Rattle.rv_back.proofs.Parts.{joins}
 

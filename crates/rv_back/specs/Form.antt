@@ -1,15 +1,12 @@
 -- An operator compiled for a softcore, and the code of its parts.
-use Rattle.std.specs.Prelude.{ℕ, ◌≤◌, List, map, filter, sum}
-use Rattle.pld_base.specs.declared.event.Side.{Side}
-use Rattle.pld_base.specs.declared.event.Side.TheVariants.{In, Out}
+use Rattle.std.specs.Prelude.{ℕ, ◌≤◌, List, sum}
 use Rattle.pld_ast.specs.declared.tree.Expr.{Expr}
 use Rattle.pld_ast.specs.declared.tree.Stmt.{Stmt}
-use Rattle.pld_ast.specs.declared.tree.Port.{Port}
 use Rattle.pld_ast.specs.declared.tree.Operator.{Operator}
 use Rattle.pld_ast.specs.declared.tree.UnOp.{UnOp}
 use Rattle.pld_ast.specs.declared.tree.UnOp.TheVariants as un
 use Rattle.pld_ast.specs.Program.{Keep, Negate, Flip, IsZero}
-use Rattle.pld_ast.specs.Resolve.{is_in, is_out, declared_in, program_of, value_in, action_in, block_in}
+use Rattle.pld_ast.specs.Resolve.{declared_in, program_of, value_in, action_in, block_in}
 use Rattle.rv_isa.specs.declared.instr.Instr.{Instr}
 use Rattle.rv_back.specs.Code.{op1_code, value_code, action_code, soft_code}
 
@@ -22,11 +19,6 @@ pub record SoftForm : Type 0 where
 -- an operator, compiled
 abbrev pub soft_form : Operator → SoftForm
 soft_form op = record { ins = (program_of op).ins; outs = (program_of op).outs; code = soft_code (program_of op) }
-
--- the names of the ports of one side, in their order
-abbrev pub ports_at : Side → List Port → List (List ℕ)
-ports_at In ports = map (λ q. q.name) (filter (λ q. is_in q.side) ports)
-ports_at Out ports = map (λ q. q.name) (filter (λ q. is_out q.side) ports)
 
 -- an operator whose ports, scalars and arrays are within the limits
 pub record HasRoom (op : Operator) : Type 0 where

@@ -6,9 +6,8 @@ ghost use Rattle.rv_back.specs.Form.{soft_form};
 
 use crate::Image;
 use crate::emit::put_block;
-use crate::places::{count_ins, count_outs};
 use crate::templates::{put_end, put_prologue};
-use pld_ast::Operator;
+use pld_ast::{Operator, count_ins, count_outs};
 use pld_base::{NoMemory, Permit};
 use std::alloc::Global;
 

@@ -7,12 +7,12 @@ ghost use Rattle.pld_ast.specs.Straight.{is_straight};
 ghost use Rattle.rv_back.specs.Code.{address, action_code, is_short as is_short_value};
 ghost use Rattle.rv_back.specs.Form.{HasRoom, expr_code, stmt_code, block_code};
 
-use crate::places::{array_place, base_of, in_place, length_of, out_place};
+use crate::places::{base_of, length_of};
 use crate::templates::{
     put, put_aside, put_back, put_const, put_end, put_get, put_load, put_op1, put_op2, put_pop,
     put_push, put_read, put_read_at, put_set, put_store, put_write,
 };
-use pld_ast::{Array, Expr, Operator, Stmt, Target, scalar_place, type_in};
+use pld_ast::{Array, Expr, Operator, Stmt, Target, array_place, in_place, out_place, scalar_place, type_in};
 use pld_base::NoMemory;
 use rv_isa::{Instr, Reg, Shift};
 

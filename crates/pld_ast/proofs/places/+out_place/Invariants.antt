@@ -1,5 +1,5 @@
 use Rattle.std.proofs.Common.{length}
-use Rattle.rv_back.proofs.places.+out_place.Given as goal
+use Rattle.pld_ast.proofs.places.+out_place.Given as goal
 
 abbrev pub decreases-out_place : goal.decreases-out_place
 decreases-out_place l = length l.ports.now

@@ -1,0 +1,161 @@
+//! Operators that the compilers take.
+
+ghost use Rattle.std.specs.Prelude.{◌≡◌, ◌≤◌, ◌<◌, ◌↔◌, ◌&&◌, IsTrue, MatchOption, map, sum, min, length};
+ghost use Rattle.pld_ast.specs.Resolve.{program_of};
+ghost use Rattle.pld_ast.specs.Sound.{IsSound};
+ghost use Rattle.pld_check.specs.Known.{AreFilled};
+
+use crate::known::{are_known, both};
+use pld_ast::{Array, Operator, count_ins, count_outs};
+use std::marker::Model;
+
+// The most ports of one side.
+const MOST_PORTS: usize = 8;
+
+// The most scalars.
+const MOST_SCALARS: usize = 64;
+
+// The most arrays.
+const MOST_ARRAYS: usize = 16;
+
+// The most words of all arrays.
+const MOST_WORDS: u32 = 8192;
+
+// The most nodes.
+const MOST_NODES: u32 = 1000;
+
+/// An operator whose names are declared and which is within the limits of the language: at most 8
+/// in-ports and 8 out-ports, 64 scalars, 16 arrays of at least one word each and 8,192 words in all,
+/// and 1,000 nodes.
+#[derive(Drop)]
+pub struct Checked {
+    operator: Operator,
+}
+
+impl Model for Checked {
+    ghost use Rattle.pld_ast.specs.declared.tree.Operator.{Operator};
+    ghost use Rattle.pld_ast.specs.Resolve.{program_of};
+    ghost use Rattle.pld_ast.specs.Sound.{IsSound};
+
+    ghost Value = { Operator };
+
+    ghost use Rattle.pld_ast.specs.contracts.tree.Stmt as stmt;
+    ghost use Rattle.pld_ast.specs.contracts.tree.Expr as expr;
+    ghost use Rattle.std.specs.Coded.{codes};
+
+    ghost coded = { Prim.hlevel (codes, stmt.the_row.coded, expr.the_row.coded) };
+
+    ghost view = { λ c. c.operator };
+
+    ghost invariant = { λ c. IsSound (program_of c.operator) };
+}
+
+// Whether an array has a word at least.
+fn is_filled(array: &Array) -> bool
+    ensures { IsTrue result ↔ (1 ≤ array.now.len) }
+{
+    array.len >= 1
+}
+
+// Whether each array has a word at least.
+fn are_filled(arrays: &[Array]) -> bool
+    ensures { IsTrue result ↔ AreFilled (map (λ a. a.len) arrays.now) }
+{
+    match arrays {
+        [] => true,
+        [first, rest @ ..] => both(is_filled(first), are_filled(rest)),
+    }
+}
+
+// How many words the arrays have, counted no further than 8,193.
+fn words_in(arrays: &[Array]) -> u32
+    ensures { result ≡ min (sum (map (λ a. a.len) arrays.now)) 8193 }
+{
+    let mut words: u32 = 0;
+    for array in arrays {
+        words = if array.len <= MOST_WORDS - words {
+            words + array.len
+        } else {
+            return MOST_WORDS + 1;
+        };
+    }
+    words
+}
+
+// Whether the ports of each side are few enough.
+fn few_ports(op: &Operator) -> bool
+    ensures { IsTrue result ↔ (((program_of op.now).ins ≤ 8) × ((program_of op.now).outs ≤ 8)) }
+{
+    let ports = op.ports.as_slice();
+    both(
+        count_ins(ports) <= MOST_PORTS,
+        count_outs(ports) <= MOST_PORTS,
+    )
+}
+
+// Whether the variables are few enough, and each array has a word at least.
+fn few_variables(op: &Operator) -> bool
+    ensures { IsTrue result ↔ (((program_of op.now).scalars ≤ 64) × (length (program_of op.now).lengths ≤ 16)) }
+{
+    both(
+        op.scalars.len() <= MOST_SCALARS,
+        op.arrays.len() <= MOST_ARRAYS,
+    )
+}
+
+// Whether the arrays are long enough, and not too long.
+fn sized_arrays(op: &Operator) -> bool
+    ensures { IsTrue result ↔ (AreFilled (program_of op.now).lengths × (sum (program_of op.now).lengths ≤ 8192)) }
+{
+    let arrays = op.arrays.as_slice();
+    both(are_filled(arrays), words_in(arrays) <= MOST_WORDS)
+}
+
+// Whether the names are declared, and the operator is within the limits.
+fn is_sound(op: &Operator) -> bool
+    ensures { IsTrue result ↔ IsSound (program_of op.now) }
+{
+    let room = both(few_ports(op), few_variables(op));
+    let body = both(
+        op.nodes() <= MOST_NODES,
+        are_known(op, op.body.as_slice()),
+    );
+    both(both(room, sized_arrays(op)), body)
+}
+
+impl Checked {
+    /// This operator, if its names are declared and it is within the limits; None where that isn't so.
+    pub fn of(operator: Operator) -> Option<Checked>
+        ensures { MatchOption result (IsSound (program_of operator) → ⊥) (λ checked. (checked ≡ operator) × IsSound (program_of operator)) }
+    {
+        if is_sound(&operator) {
+            Some(Checked { operator })
+        } else {
+            None
+        }
+    }
+
+    /// The operator.
+    pub fn operator(&self) -> &Operator
+        ensures value { result.now ≡ self.now }
+        ensures sound { IsSound (program_of self.now) }
+    {
+        &self.operator
+    }
+
+    /// How many in-ports it has, at most 8.
+    pub fn ins(&self) -> u8
+        ensures value { result ≡ (program_of self.now).ins }
+        ensures bound { result ≤ 8 }
+    {
+        count_ins(self.operator.ports.as_slice()) as u8
+    }
+
+    /// How many out-ports it has, at most 8.
+    pub fn outs(&self) -> u8
+        ensures value { result ≡ (program_of self.now).outs }
+        ensures bound { result ≤ 8 }
+    {
+        count_outs(self.operator.ports.as_slice()) as u8
+    }
+}
