@@ -1,4 +1,4 @@
-pub mod Example
+pub mod Closing
 pub mod Lengths
 pub mod Parts
 pub mod Whole

@@ -1,29 +1,26 @@
 -- The code of a whole operator.
-use Rattle.std.proofs.Common.{◌≡◌, ℕ, ◌≤◌, List, [], ◌∷◌, ◌++◌, length, sym, ap, ◌∙◌, subst}
-use Rattle.std.proofs.lemmas.List.{length-map}
-use Rattle.std.proofs.lemmas.List.Sums.{length-filter}
-use Rattle.std.specs.List.{count_by, filter}
-use Rattle.pld_base.specs.declared.event.Side.TheVariants.{In, Out}
-use Rattle.pld_ast.specs.declared.tree.Port.{Port}
+use Rattle.std.proofs.Common.{◌≡◌, ℕ, ◌≤◌, List, [], ◌∷◌, ◌++◌, length, sym, ap, ◌∙◌, subst, arith}
 use Rattle.pld_ast.specs.declared.tree.Stmt.{Stmt}
 use Rattle.pld_ast.specs.declared.tree.Operator.{Operator}
-use Rattle.pld_ast.specs.Resolve.{is_in, is_out, ports_at, program_of}
-use Rattle.pld_ast.specs.Straight.{IsStraight}
+use Rattle.pld_ast.specs.Resolve.{block_in, declared_in, program_of}
+use Rattle.pld_ast.specs.Nodes.{action_nodes}
+use Rattle.pld_ast.specs.Sound.{IsSound}
 use Rattle.rv_isa.specs.declared.instr.Instr.{Instr}
 use Rattle.rv_isa.specs.declared.instr.Instr.TheVariants.{Ebreak}
 use Rattle.rv_back.specs.Code.{prologue, soft_code}
-use Rattle.rv_back.specs.Form.{SoftForm, soft_form, block_code}
+use Rattle.rv_back.specs.Form.{SoftForm, HasRoom, HasSpace, soft_form, block_code}
 use Rattle.rv_back.proofs.Lengths.{program_short}
 use Rattle.rv_back.proofs.Parts.{joins}
 
 module _ (op : Operator) where
-  pub counted_ins : (ports : List Port) (n : ℕ) → ports ≡ op.ports → n ≡ count_by (λ q. is_in q.side) ports → n ≡ (program_of op).ins
-  counted_ins ports n e h =
-      h ∙ sym (length-filter (λ q. is_in q.side) ports) ∙ sym (length-map (filter (λ q. is_in q.side) ports) (λ q. q.name)) ∙ ap (λ x. length (ports_at In x)) e
+  pub has_room : IsSound (program_of op) → HasRoom op
+  has_room h = record { ins = h.ins; outs = h.outs; scalars = h.scalars; words = h.words }
 
-  pub counted_outs : (ports : List Port) (n : ℕ) → ports ≡ op.ports → n ≡ count_by (λ q. is_out q.side) ports → n ≡ (program_of op).outs
-  counted_outs ports n e h =
-      h ∙ sym (length-filter (λ q. is_out q.side) ports) ∙ sym (length-map (filter (λ q. is_out q.side) ports) (λ q. q.name)) ∙ ap (λ x. length (ports_at Out x)) e
+  pub has_space : (code0 code1 : List Instr) (body : List Stmt) → IsSound (program_of op) → code0 ≡ [] → code1 ≡ code0 ++ prologue → body ≡ op.body → HasSpace code1 (block_in (declared_in op) body)
+  has_space code0 code1 body h e0 e1 e =
+      let l : length code1 ≡ 4 = ap length (e1 ∙ ap (λ x. x ++ prologue) e0) in
+      let n : action_nodes (block_in (declared_in op) body) ≡ action_nodes (program_of op).body = ap (λ x. action_nodes (block_in (declared_in op) x)) e in
+      omega (arith, h.nodes, l, n)
 
   pub whole_code : (code0 code1 code2 code3 : List Instr) (body : List Stmt) → code0 ≡ [] → code1 ≡ code0 ++ prologue → body ≡ op.body
       → code2 ≡ code1 ++ block_code op body → code3 ≡ code2 ++ Ebreak ∷ [] → code3 ≡ soft_code (program_of op)
@@ -32,7 +29,7 @@ module _ (op : Operator) where
       ∙ ap (λ x. x ++ (prologue ++ (block_code op body ++ Ebreak ∷ []))) e0
       ∙ ap (λ x. prologue ++ (block_code op x ++ Ebreak ∷ [])) e
 
-  pub whole_short : (code : List Instr) → IsStraight op → code ≡ soft_code (program_of op) → length code ≤ 12005
+  pub whole_short : (code : List Instr) → IsSound (program_of op) → code ≡ soft_code (program_of op) → length code ≤ 12005
   whole_short code h e = subst (λ x. length x ≤ 12005) (sym e) (program_short (program_of op).lengths (program_of op).body 1000 h.nodes)
 
   pub whole_form : (image : SoftForm) (ins outs : ℕ) (code : List Instr) → image ≡ record { ins = ins; outs = outs; code = code }
@@ -40,3 +37,14 @@ module _ (op : Operator) where
   whole_form image ins outs code e e1 e2 e3 =
       let make : ℕ → ℕ → List Instr → SoftForm = λ x y z. record { ins = x; outs = y; code = z } in
       e ∙ ap (λ x. make x outs code) e1 ∙ ap (λ y. make (program_of op).ins y code) e2 ∙ ap (make (program_of op).ins (program_of op).outs) e3
+
+-- the same of the operator as the compiler takes it
+pub sound_as : (op op' : Operator) → op' ≡ op → IsSound (program_of op) → IsSound (program_of op')
+sound_as op op' e h = subst (λ o. IsSound (program_of o)) (sym e) h
+
+pub code_as : (op op' : Operator) (code : List Instr) → op' ≡ op → code ≡ soft_code (program_of op') → code ≡ soft_code (program_of op)
+code_as op op' code e h = h ∙ ap (λ o. soft_code (program_of o)) e
+
+-- what holds of the form of an operator holds of its image
+pub of_image : (P : List Instr → ℕ → ℕ → Type 0) (op : Operator) (image : SoftForm) → image ≡ soft_form op → P (soft_code (program_of op)) (program_of op).ins (program_of op).outs → P image.code image.ins image.outs
+of_image P op image e h = subst (λ i. P i.code i.ins i.outs) (sym e) h

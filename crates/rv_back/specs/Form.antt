@@ -1,14 +1,16 @@
 -- An operator compiled for a softcore, and the code of its parts.
-use Rattle.std.specs.Prelude.{ℕ, ◌≤◌, List, sum}
+use Rattle.std.specs.Prelude.{ℕ, ◌+◌, ◌*◌, ◌≤◌, List, [], ◌∷◌, length, sum, min, pos}
 use Rattle.pld_ast.specs.declared.tree.Expr.{Expr}
 use Rattle.pld_ast.specs.declared.tree.Stmt.{Stmt}
 use Rattle.pld_ast.specs.declared.tree.Operator.{Operator}
 use Rattle.pld_ast.specs.declared.tree.UnOp.{UnOp}
 use Rattle.pld_ast.specs.declared.tree.UnOp.TheVariants as un
-use Rattle.pld_ast.specs.Program.{Keep, Negate, Flip, IsZero}
+use Rattle.pld_ast.specs.Program.{Action, Keep, Negate, Flip, IsZero}
+use Rattle.pld_ast.specs.Nodes.{action_nodes}
 use Rattle.pld_ast.specs.Resolve.{declared_in, program_of, value_in, action_in, block_in}
 use Rattle.rv_isa.specs.declared.instr.Instr.{Instr}
-use Rattle.rv_back.specs.Code.{op1_code, value_code, action_code, soft_code}
+use Rattle.rv_isa.specs.declared.instr.Instr.TheVariants.{Bne, Jal}
+use Rattle.rv_back.specs.Code.{neg_of, op1_code, value_code, action_code, soft_code}
 
 -- what contracts see of an image: the counts of its ports, and its code
 pub record SoftForm : Type 0 where
@@ -26,6 +28,22 @@ pub record HasRoom (op : Operator) : Type 0 where
   pub outs : (program_of op).outs ≤ 8
   pub scalars : (program_of op).scalars ≤ 64
   pub words : sum (program_of op).lengths ≤ 8192
+
+-- 12,005 instructions hold this code and 12 for each node of the action
+abbrev pub HasSpace : List Instr → Action → Type 0
+HasSpace code a = length code + 12 * action_nodes a ≤ 12005
+
+-- a jump over so many words of the code, at most 12,005
+abbrev pub jump_on : ℕ → Instr
+jump_on n = Jal 0 (pos (4 * min n 12005))
+
+-- a jump back by so many words of the code, at most 12,005
+abbrev pub jump_back : ℕ → Instr
+jump_back n = Jal 0 (neg_of (4 * min n 12005))
+
+-- a test, and a jump whose length isn't told yet
+abbrev pub open_test : List Instr
+open_test = Bne 10 0 (pos 8) ∷ jump_on 0 ∷ []
 
 -- the code of a prefix operator
 abbrev pub un_code : UnOp → List Instr

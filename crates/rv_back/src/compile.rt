@@ -1,45 +1,51 @@
 //! Operators, compiled for softcores.
 
 ghost use Rattle.std.specs.Prelude.{◌≡◌, ◌≤◌, ◌<◌, IfOk, length};
-ghost use Rattle.pld_ast.specs.Straight.{IsStraight};
+ghost use Rattle.pld_base.specs.Process.{WritesWords};
+ghost use Rattle.pld_kahn.specs.Realises.{Realises};
+ghost use Rattle.pld_ast.specs.Meaning.{trace};
+ghost use Rattle.pld_ast.specs.Resolve.{program_of};
+ghost use Rattle.rv_core.specs.Process.{soft_process, NeverTraps};
 ghost use Rattle.rv_back.specs.Form.{soft_form};
 
 use crate::Image;
 use crate::emit::put_block;
+use crate::laws::code_keeps_the_meaning;
 use crate::templates::{put_end, put_prologue};
-use pld_ast::{Operator, count_ins, count_outs};
 use pld_base::{NoMemory, Permit};
+use pld_check::Checked;
 use std::alloc::Global;
 
-/// Compiles an operator without `if` and `while` for a softcore. The permit is spent.
-pub fn compile_soft(alloc: Global, permit: Permit, op: &Operator) -> Result<Image, NoMemory>
-    requires { IsStraight op.now }
-    ensures code { IfOk result (λ image. image ≡ soft_form op.now) }
+/// Compiles an operator for a softcore. The permit is spent. The code does what the operator means: no
+/// more, no less, it returns where that returns and starves where that starves. It never traps, and it
+/// writes words.
+pub fn compile_soft(alloc: Global, permit: Permit, checked: &Checked) -> Result<Image, NoMemory>
+    ensures code { IfOk result (λ image. image ≡ soft_form checked.now) }
     ensures short { IfOk result (λ image. length image.code ≤ 12005) }
+    ensures realises { IfOk result (λ image. Realises (soft_process image.code image.ins image.outs) (trace (program_of checked.now))) }
+    ensures never_traps { IfOk result (λ image. NeverTraps image.code image.ins image.outs) }
+    ensures writes_words { IfOk result (λ image. WritesWords (soft_process image.code image.ins image.outs)) }
 {
     let _spent = permit;
+    code_keeps_the_meaning();
+    let op = checked.operator();
     let mut code = Vec::new(alloc);
     put_prologue(&mut code)?;
     put_block(&mut code, op, op.body.as_slice())?;
     put_end(&mut code)?;
-    let ports = op.ports.as_slice();
-    let ins = count_ins(ports) as u8;
-    let outs = count_outs(ports) as u8;
-    Ok(Image::new(ins, outs, code))
+    Ok(Image::new(checked.ins(), checked.outs(), code))
 }
 
 #[cfg(test)]
 mod tests {
     use super::*;
-    use pld_ast::{BinOp, Expr, Port, Scalar, Stmt, Target, Ty, Used};
+    use pld_ast::{BinOp, Expr, Operator, Port, Scalar, Stmt, Target, Ty, Used};
     use pld_base::{Name, Permits, Place, PortNo, Side, StepEnd};
     use sqlite_items::{Boxed, Items};
     use std::test::Fail;
 
     // void f(out b) { int32_t x; x = x + 1; write(b, x); }
-    fn next_number(alloc: Global, f: Name, b: Name, x: Name) -> Result<Operator, NoMemory>
-        ensures { IfOk result (λ op. IsStraight op) }
-    {
+    fn next_number(alloc: Global, f: Name, b: Name, x: Name) -> Result<Operator, NoMemory> {
         let at = Place { line: 1, column: 1 };
         let left = Boxed::new(alloc, Expr::Var(Used { name: x, at }))?;
         let right = Boxed::new(alloc, Expr::Lit(1, Ty::Int))?;
@@ -76,7 +82,7 @@ mod tests {
         let f = Name::of(b"f").ok_or("no name")?;
         let b = Name::of(b"b").ok_or("no name")?;
         let x = Name::of(b"x").ok_or("no name")?;
-        let op = next_number(alloc, f, b, x)?;
+        let op = Checked::of(next_number(alloc, f, b, x)?).ok_or("not sound")?;
         let permit = Permits::new().issue(alloc, 1)?.pop().ok_or("no permit")?;
         let image = compile_soft(alloc, permit, &op)?;
         assert_eq!(rt; image.code().len(), 13);

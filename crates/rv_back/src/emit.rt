@@ -1,12 +1,11 @@
 //! From the tree of an operator to the softcore's instructions.
 
-ghost use Rattle.std.specs.Prelude.{◌≡◌, ◌≤◌, [], ◌∷◌, ◌++◌, OnOk, pos, map, sum, true};
-ghost use Rattle.std.specs.List.{list_all};
-ghost use Rattle.pld_ast.specs.Resolve.{Names, value_in, program_of, assigned, read_to, declared_in};
-ghost use Rattle.pld_ast.specs.Straight.{is_straight};
+ghost use Rattle.std.specs.Prelude.{◌≡◌, ◌≤◌, [], ◌∷◌, ◌++◌, OnOk, pos, map, sum};
+ghost use Rattle.pld_ast.specs.Resolve.{Names, value_in, action_in, block_in, program_of, assigned, read_to, declared_in};
 ghost use Rattle.rv_back.specs.Code.{address, action_code, is_short as is_short_value};
-ghost use Rattle.rv_back.specs.Form.{HasRoom, expr_code, stmt_code, block_code};
+ghost use Rattle.rv_back.specs.Form.{HasRoom, HasSpace, expr_code, stmt_code, block_code};
 
+use crate::jumps::{close_choice, close_loop, jump_forward, put_open};
 use crate::places::{base_of, length_of};
 use crate::templates::{
     put, put_aside, put_back, put_const, put_end, put_get, put_load, put_op1, put_op2, put_pop,
@@ -122,11 +121,11 @@ fn put_input(code: &mut Vec<Instr>, op: &Operator, to: &Target, port: usize) -> 
     }
 }
 
-// The code of a statement, which is no `if` and no `while`.
+// The code of a statement.
+#[cycle(statements)]
 fn put_statement(code: &mut Vec<Instr>, op: &Operator, s: &Stmt) -> Result<(), NoMemory>
-    requires room { HasRoom op.now }
-    requires straight { is_straight s.now ≡ true }
-    ensures { OnOk result (code.new.items ≡ code.old.items ++ stmt_code op.now s.now) }
+    requires { HasRoom op.now }
+    ensures { OnOk result (HasSpace code.old.items (action_in (declared_in op.now) s.now) → code.new.items ≡ code.old.items ++ stmt_code op.now s.now) }
 {
     match s {
         Stmt::Assign(to, e) => put_assign(code, op, to, e),
@@ -137,16 +136,35 @@ fn put_statement(code: &mut Vec<Instr>, op: &Operator, s: &Stmt) -> Result<(), N
             put_value(code, op, e)?;
             put_write(code, out_place(op.ports.as_slice(), &port.name))
         }
+        Stmt::If(test, yes, no) => {
+            put_value(code, op, test)?;
+            let tested = code.len();
+            put_open(code)?;
+            put_block(code, op, yes.as_slice())?;
+            let first = code.len();
+            put(code, jump_forward(0))?;
+            put_block(code, op, no.as_slice())?;
+            close_choice(code, tested, first);
+            Ok(())
+        }
+        Stmt::While(test, body) => {
+            let start = code.len();
+            put_value(code, op, test)?;
+            let tested = code.len();
+            put_open(code)?;
+            put_block(code, op, body.as_slice())?;
+            close_loop(code, start, tested)
+        }
         Stmt::Return => put_end(code),
-        Stmt::If(..) | Stmt::While(..) => unreachable!(),
     }
 }
 
-/// The code of a list of statements, none of which is an `if` or a `while`.
+/// The code of a list of statements. It is right where there is space for it: 12,005 instructions hold
+/// the code so far and 12 for each node of the statements.
+#[cycle(statements)]
 pub fn put_block(code: &mut Vec<Instr>, op: &Operator, body: &[Stmt]) -> Result<(), NoMemory>
-    requires room { HasRoom op.now }
-    requires straight { list_all is_straight body.now ≡ true }
-    ensures { OnOk result (code.new.items ≡ code.old.items ++ block_code op.now body.now) }
+    requires { HasRoom op.now }
+    ensures { OnOk result (HasSpace code.old.items (block_in (declared_in op.now) body.now) → code.new.items ≡ code.old.items ++ block_code op.now body.now) }
 {
     for s in body {
         put_statement(code, op, s)?;

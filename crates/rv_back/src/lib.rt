@@ -4,10 +4,11 @@
 mod compile;
 mod emit;
 mod image;
+mod jumps;
 mod laws;
 mod places;
 mod templates;
 
 pub use compile::compile_soft;
-pub use laws::code_keeps_the_meaning;
 pub use image::Image;
+pub use laws::code_keeps_the_meaning;
