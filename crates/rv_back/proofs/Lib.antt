@@ -5,4 +5,5 @@ pub mod Lengths
 pub mod Lines
 pub mod Parts
 pub mod Steps
+pub mod Values
 pub mod Whole
