@@ -1,3 +1,4 @@
+pub mod Actions
 pub mod AreWords
 pub mod Example
 pub mod Frames
