@@ -5,6 +5,7 @@ pub mod Frames
 pub mod Lengths
 pub mod Lines
 pub mod Parts
+pub mod Processes
 pub mod Steps
 pub mod Values
 pub mod Whole
