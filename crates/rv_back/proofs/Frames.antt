@@ -25,15 +25,18 @@ with_other f k v j h = elim (eqb_tells j k) as (λ _. with f k v j ≡ f j) [
   | inr e ↦ ap (λ b. if b then v else f j) e.0
 ]
 
--- a register above 11 isn't x2, x10 or x11
+-- a register above 11 isn't one below
+pub past : (k x y r : ℕ) → k < 12 → 12 ≤ r → (if nat_eq r k then x else y) ≡ y
+past k x y r below h = with_other (λ j. y) k x r (let n : r ≢ k = omega arith in n)
+
 pub past2 : (x y r : ℕ) → 12 ≤ r → (if nat_eq r 2 then x else y) ≡ y
-past2 x y r h = with_other (λ j. y) 2 x r (let n : r ≢ 2 = omega arith in n)
+past2 x y r h = past 2 x y r (omega arith) h
 
 pub past10 : (x y r : ℕ) → 12 ≤ r → (if nat_eq r 10 then x else y) ≡ y
-past10 x y r h = with_other (λ j. y) 10 x r (let n : r ≢ 10 = omega arith in n)
+past10 x y r h = past 10 x y r (omega arith) h
 
 pub past11 : (x y r : ℕ) → 12 ≤ r → (if nat_eq r 11 then x else y) ≡ y
-past11 x y r h = with_other (λ j. y) 11 x r (let n : r ≢ 11 = omega arith in n)
+past11 x y r h = past 11 x y r (omega arith) h
 
 -- ---- where a scalar stands
 

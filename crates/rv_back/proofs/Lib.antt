@@ -6,6 +6,7 @@ pub mod Lengths
 pub mod Lines
 pub mod Parts
 pub mod Processes
+pub mod Realised
 pub mod Steps
 pub mod Values
 pub mod Whole

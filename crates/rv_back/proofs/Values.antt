@@ -131,15 +131,15 @@ module _ (g : Program) (sound : IsSound g) (code : Code) (short : IsShort code) 
       cq : List Instr
       cq = value_code g.lengths q
 
-      by_op : (m1 m2 : Machine) → m1 ≡ aside a.to → Kept 8128 a.to m2 → Line g.ins g.outs (set_aside true ++ cq) a.to m2 → m2.regs 11 ≡ u → m2.regs 10 ≡ value_of g.lengths q st → ((to : Machine) × Line g.ins g.outs (op2_code o) m2 to × (to.regs 10 ≡ binary_of o (m2.regs 11) (m2.regs 10)) × Kept 8128 m2 to) → Evaluates code g.ins g.outs (k + length (set_aside true ++ (cq ++ (bring_back true ++ op2_code o)))) d (binary_of o u (value_of g.lengths q st)) m left events
-      by_op m1 m2 e kept line x11 x10 op =
+      by_op : (m2 : Machine) → Kept 8128 a.to m2 → Line g.ins g.outs (set_aside true ++ cq) a.to m2 → m2.regs 11 ≡ u → m2.regs 10 ≡ value_of g.lengths q st → ((to : Machine) × Line g.ins g.outs (op2_code o) m2 to × (to.regs 10 ≡ binary_of o (m2.regs 11) (m2.regs 10)) × Kept 8128 m2 to) → Evaluates code g.ins g.outs (k + length (set_aside true ++ (cq ++ (bring_back true ++ op2_code o)))) d (binary_of o u (value_of g.lengths q st)) m left events
+      by_op m2 kept line x11 x10 op =
           then_line k d u (binary_of o u (value_of g.lengths q st)) (set_aside true ++ (cq ++ (bring_back true ++ op2_code o))) m op.0 a has (line_join g.ins g.outs (set_aside true ++ cq) (op2_code o) a.to m2 op.0 line op.1) (op.2 ∙ ap (λ x. binary_of o x (m2.regs 10)) x11 ∙ ap (binary_of o u) x10) (kept_on deep (kept_on deep a.kept kept) op.3)
 
       by_right : (m1 : Machine) → m1 ≡ aside a.to → Kept 8128 a.to m1 → ((to : Machine) × Line g.ins g.outs cq m1 to × (to.regs 10 ≡ value_of g.lengths q st) × (to.regs 11 ≡ m1.regs 11) × Kept 8128 m1 to) → Evaluates code g.ins g.outs (k + length (set_aside true ++ (cq ++ (bring_back true ++ op2_code o)))) d (binary_of o u (value_of g.lengths q st)) m left events
       by_right m1 e kept l =
           let same : sum_of (a.to.regs 10) 0 ≡ u = ap (λ x. sum_of x 0) a.value ∙ (let n : sum_of u 0 ≡ u = omega arith in n) in
           let x11 : l.0.regs 11 ≡ u = l.3 ∙ ap (λ x. x.regs 11) e ∙ same in
-          by_op m1 l.0 e (kept_on (let n : 8128 ≤ 8128 = omega arith in n) kept l.4) (line_join g.ins g.outs (set_aside true) cq a.to m1 l.0 (m1, ap Went (sym e), ap (λ x. x.pc) e, refl) l.1) x11 l.2 (op2_line g.ins g.outs l.0 o (subst IsWord (sym x11) wu) (subst IsWord (sym l.2) wv))
+          by_op l.0 (kept_on (let n : 8128 ≤ 8128 = omega arith in n) kept l.4) (line_join g.ins g.outs (set_aside true) cq a.to m1 l.0 (m1, ap Went (sym e), ap (λ x. x.pc) e, refl) l.1) x11 l.2 (op2_line g.ins g.outs l.0 o (subst IsWord (sym x11) wu) (subst IsWord (sym l.2) wv))
 
   -- an operation on two values
   pair_runs : (short_right : Bool) (o : Operation2) (q : Value) (k d u : ℕ) (st : State) (m : Machine) → is_short q ≡ short_right → IsKnownValue g q → d < 8128 → m.regs 2 ≡ 0x28100 + 4 * d → IsWord u → IsWord (value_of g.lengths q st) → Frame g st m → (a : Evaluates code g.ins g.outs k d u m left events) → HasAt code k (set_aside short_right ++ (value_code g.lengths q ++ (bring_back short_right ++ op2_code o))) → ((m1 : Machine) → HasAt code (k + 2) (value_code g.lengths q) → m1.pc ≡ 4 * (k + 2) → Pushed d a.to m1 → Evaluates code g.ins g.outs (k + 2 + length (value_code g.lengths q)) (d + 1) (value_of g.lengths q st) m1 left events) → Evaluates code g.ins g.outs (k + length (set_aside short_right ++ (value_code g.lengths q ++ (bring_back short_right ++ op2_code o)))) d (binary_of o u (value_of g.lengths q st)) m left events
