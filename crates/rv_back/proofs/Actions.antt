@@ -1,5 +1,5 @@
 -- An action's code does what the action does.
-use Rattle.std.proofs.Common.{◌≡◌, ℕ, zero, suc, ◌+◌, ◌-◌, ◌*◌, ◌/◌, ◌%◌, ◌<◌, ◌≤◌, ◌≢◌, ◌^◌, ◌==◌, List, [], ◌∷◌, ◌++◌, length, Option, Some, None, refl, sym, ap, ◌∙◌, subst, arith, append_assoc, length-append, Bool, true, false}
+use Rattle.std.proofs.Common.{◌≡◌, ℕ, zero, suc, ◌+◌, ◌-◌, ◌*◌, ◌%◌, ◌<◌, ◌≤◌, ◌≢◌, ◌^◌, ◌==◌, List, [], ◌∷◌, ◌++◌, length, Option, Some, None, refl, sym, ap, ◌∙◌, subst, arith, append_assoc, length-append, Bool, true, false}
 use Rattle.std.specs.Prelude.{pos, nat_eq, if◌then◌else◌, slice_index, All}
 use Rattle.std.proofs.lemmas.Bool.Decides.{nat_tests}
 use Rattle.std.proofs.lemmas.List.Elements.{All-append, All-cons, All-nil}
@@ -12,8 +12,8 @@ use Rattle.pld_base.proofs.Events.{words_written-append}
 use Rattle.pld_base.specs.declared.event.Event.{Event}
 use Rattle.pld_base.specs.declared.event.Event.TheVariants.{Read as ReadEvent, Write as WriteEvent}
 use Rattle.rv_isa.specs.declared.instr.Instr.{Instr}
-use Rattle.rv_isa.specs.declared.instr.Instr.TheVariants.{Jal, Bne, Lw, Sw, Addi, Ebreak}
-use Rattle.rv_core.specs.Machine.{Machine, Step, Went, AtRead, AtWrite, Ended, Code, act, load, store, jump, next, set_reg, place_of, extended, soft_step}
+use Rattle.rv_isa.specs.declared.instr.Instr.TheVariants.{Jal, Lw, Sw, Addi, Ebreak}
+use Rattle.rv_core.specs.Machine.{Machine, Went, AtRead, AtWrite, Code, act, load, store, jump, next, set_reg, place_of, extended, soft_step}
 use Rattle.rv_core.specs.Page.{Page, move, moved, resumed, take_word as take_page, standing, standing_at, stands}
 use Rattle.rv_core.specs.Process.{page_after}
 use Rattle.pld_ast.specs.Program.{Value, Action, Skip, Then, Assign, Store, Read, ReadInto, Write, Choose, Repeat, Return, Program}

@@ -1,13 +1,13 @@
 -- Every value of a program is a word.
-use Rattle.std.proofs.Common.{◌≡◌, ℕ, zero, suc, ◌+◌, ◌-◌, ◌*◌, ◌/◌, ◌%◌, ◌<◌, ◌≤◌, ◌^◌, List, [], ◌∷◌, length, refl, sym, ap, ◌∙◌, subst, arith, Bool, true, false}
+use Rattle.std.proofs.Common.{◌≡◌, ℕ, zero, suc, ◌-◌, ◌/◌, ◌%◌, ◌<◌, ◌≤◌, ◌^◌, List, refl, arith, Bool, true, false}
 use Rattle.std.proofs.lemmas.Bool.{ltb-false}
 use Rattle.std.proofs.lemmas.Nat.{or_lt, xor_lt, and_le_l}
 use Rattle.std.proofs.Math.Nat.{div-le_self}
-use Rattle.std.specs.Prelude.{bit_and, bit_or, bit_xor, nat_lt, nat_eq, if◌then◌else◌, All, slice_index}
+use Rattle.std.specs.Prelude.{nat_lt, if◌then◌else◌, All}
 use Rattle.pld_base.specs.Events.{words_written}
 use Rattle.pld_base.specs.declared.event.Event.{Event}
-use Rattle.pld_base.specs.Words.{IsWord, sum_of, difference_of, product_of, less_signed, less_unsigned, truth_of, quotient_signed, quotient_unsigned, remainder_signed, remainder_unsigned, shifted_left, shifted_right, shifted_right_signed, size_of, negated, is_same_sign}
-use Rattle.pld_ast.specs.Program.{Sign, Signed, Unsigned, Operation1, Keep, Negate, Flip, IsZero, Operation2, EitherOf, BothOf, BitOr, BitXor, BitAnd, Equal, Unequal, Less, AtMost, More, AtLeast, ShiftLeft, ShiftRight, Plus, Minus, Times, Quotient, Remainder, Value, Number, Scalar, Element, Op1, Op2, Program}
+use Rattle.pld_base.specs.Words.{IsWord, truth_of, quotient_signed, quotient_unsigned, remainder_signed, remainder_unsigned, shifted_right, shifted_right_signed, size_of, is_same_sign}
+use Rattle.pld_ast.specs.Program.{Signed, Unsigned, Operation1, Keep, Negate, Flip, IsZero, Operation2, EitherOf, BothOf, BitOr, BitXor, BitAnd, Equal, Unequal, Less, AtMost, More, AtLeast, ShiftLeft, ShiftRight, Plus, Minus, Times, Quotient, Remainder, Value, Number, Scalar, Element, Op1, Op2, Program}
 use Rattle.pld_ast.specs.Meaning.{State, is_zero, is_other, either_of, both_of, unary_of, binary_of, index_in, value_of}
 use Rattle.pld_ast.specs.Sound.{IsKnownValue}
 

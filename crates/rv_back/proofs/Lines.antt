@@ -1,19 +1,17 @@
 -- Stretches of code that the templates are made of.
-use Rattle.std.proofs.Common.{◌≡◌, ℕ, zero, suc, ◌+◌, ◌-◌, ◌*◌, ◌/◌, ◌%◌, ◌<◌, ◌≤◌, ◌≢◌, ◌^◌, List, [], ◌∷◌, ◌++◌, length, take, Option, Some, None, refl, sym, ap, ◌∙◌, subst, arith, inl, inr, length-append, Bool, true, false, eq-eqb}
-use Rattle.std.specs.Prelude.{pos, negsuc, nat_lt, nat_eq, if◌then◌else◌, max, sum, slice_index, bit_xor, bit_or, bit_and}
+use Rattle.std.proofs.Common.{◌≡◌, ℕ, zero, suc, ◌+◌, ◌*◌, ◌%◌, ◌<◌, ◌≤◌, ◌≢◌, ◌^◌, length, Option, Some, None, refl, sym, ap, ◌∙◌, arith, inl, inr, Bool, true, false}
+use Rattle.std.specs.Prelude.{negsuc, nat_eq, slice_index, bit_xor, bit_or, bit_and}
 use Rattle.std.proofs.lemmas.Bool.Decides.{eqb_tells, nat_tests}
 use Rattle.std.proofs.lemmas.Nat.{le_or_l}
-use Rattle.pld_base.specs.Words.{IsWord, sum_of, product_of, difference_of, less_signed, less_unsigned, truth_of, remainder_unsigned, shifted_left}
+use Rattle.pld_base.specs.Words.{IsWord, sum_of, product_of, difference_of, less_unsigned, truth_of, remainder_unsigned, shifted_left}
 use Rattle.pld_base.specs.Lists.{with}
-use Rattle.rv_isa.specs.declared.instr.Instr.{Instr}
-use Rattle.rv_isa.specs.declared.instr.Instr.TheVariants.{Lui, Jal, Bne, Lw, Sw, Addi, Add, Remu, Slli}
-use Rattle.rv_core.specs.Machine.{Machine, Went, act, load, store, gives, next, reg, set_reg, place_of, InRam, extended}
-use Rattle.pld_ast.specs.Program.{Sign, Signed, Unsigned, Operation1, Keep, Negate, Flip, IsZero, Operation2, EitherOf, BothOf, BitOr, BitXor, BitAnd, Equal, Unequal, Less, AtMost, More, AtLeast, ShiftLeft, ShiftRight, Plus, Minus, Times, Quotient, Remainder, Value, Number, Scalar, Element, Op1, Op2, Program}
+use Rattle.rv_core.specs.Machine.{Machine, Went, load, store, gives, next, reg, set_reg, place_of, extended}
+use Rattle.pld_ast.specs.Program.{Signed, Unsigned, Operation1, Keep, Negate, Flip, IsZero, Operation2, EitherOf, BothOf, BitOr, BitXor, BitAnd, Equal, Unequal, Less, AtMost, More, AtLeast, ShiftLeft, ShiftRight, Plus, Minus, Times, Quotient, Remainder, Value, Number, Scalar, Element, Op1, Op2, Program}
 use Rattle.pld_ast.specs.Sound.{IsSound, IsKnownValue}
 use Rattle.pld_ast.specs.Meaning.{State, set_scalar, is_zero, is_other, either_of, both_of, unary_of, binary_of, value_of}
-use Rattle.rv_back.specs.Code.{high_of, low_of, const, push, pop, get_from, set_to, register_at, base_of, address, op1_code, op2_code, is_short, value_code}
+use Rattle.rv_back.specs.Code.{high_of, low_of, push, pop, get_from, set_to, register_at, base_of, address, op1_code, op2_code, is_short, value_code}
 use Rattle.rv_back.proofs.Steps.{place_ram, Line, const_value}
-use Rattle.rv_back.proofs.Frames.{with_same, with_other, past2, past10, past11, StandsAt, stands_at, reg_high, set_high, Kept, kept_on, Frame, within, array_within, frame_near, frame_far}
+use Rattle.rv_back.proofs.Frames.{with_same, with_other, past2, past10, past11, StandsAt, stands_at, reg_high, set_high, Kept, Frame, within, array_within, frame_near, frame_far}
 
 -- ---- operations
 
@@ -215,4 +213,3 @@ module _ (g : Program) (sound : IsSound g) where
       let c1 : sum_of (product_of 4096 (high_of len)) (extended (low_of len)) ≡ len = const_value len (omega (arith, sound.words)) in
       let c2 : sum_of (product_of 4096 (high_of (0x20000 + 4 * base))) (extended (low_of (0x20000 + 4 * base))) ≡ 0x20000 + 4 * base = const_value (0x20000 + 4 * base) (omega arith) in
       (_, (_, refl, refl, (_, refl, refl, (_, refl, refl, (_, refl, refl, (_, refl, refl, (_, refl, refl, (_, refl, refl, refl))))))), ap (λ l. sum_of (shifted_left (remainder_unsigned x l) 2) (sum_of (product_of 4096 (high_of (0x20000 + 4 * base))) (extended (low_of (0x20000 + 4 * base))))) c1 ∙ ap (λ b. sum_of (shifted_left (remainder_unsigned x len) 2) b) c2 ∙ address_value x len base some last, record { x2 = refl; x8 = refl; x9 = refl; high = λ r l. past10 _ _ r l ∙ past11 _ _ r l ∙ past11 _ _ r l ∙ past10 _ _ r l ∙ past10 _ _ r l ∙ past11 _ _ r l ∙ past11 _ _ r l; ram = λ w l. refl })
-

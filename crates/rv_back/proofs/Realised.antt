@@ -1,5 +1,5 @@
 -- The code of a sound program does what the program means.
-use Rattle.std.proofs.Common.{◌≡◌, ◌≢◌, ℕ, zero, suc, ◌+◌, ◌-◌, ◌*◌, ◌<◌, ◌≤◌, ◌^◌, List, [], ◌∷◌, ◌++◌, length, Option, Some, None, refl, sym, ap, ◌∙◌, subst, ⊎_elim, arith, append_assoc, length-append}
+use Rattle.std.proofs.Common.{◌≡◌, ◌≢◌, ℕ, ◌+◌, ◌-◌, ◌<◌, ◌≤◌, ◌^◌, List, [], ◌∷◌, ◌++◌, length, Some, None, refl, sym, ap, ◌∙◌, subst, ⊎_elim, arith, append_assoc, length-append}
 use Rattle.std.specs.Prelude.{slice_get, All}
 use Rattle.std.proofs.Math.Seq.{get_or-append_seam}
 use Rattle.std.proofs.lemmas.Bool.{cases_lt}
@@ -18,7 +18,7 @@ use Rattle.pld_kahn.proofs.Realising.{keeping_up_realises}
 use Rattle.rv_isa.specs.declared.instr.Instr.{Instr}
 use Rattle.rv_isa.specs.declared.instr.Instr.TheVariants.{Ebreak}
 use Rattle.rv_core.specs.Machine.{Machine, Step, Went, AtRead, AtWrite, Ended, Trapped, Code, soft_step, at_start}
-use Rattle.rv_core.specs.Page.{Page, move, moved, take_word, standing, standing_at, stands, page_on}
+use Rattle.rv_core.specs.Page.{Page, moved, take_word, standing, standing_at, stands, page_on}
 use Rattle.rv_core.specs.Process.{soft_next, soft_process, page_after, NeverTraps}
 use Rattle.pld_ast.specs.Program.{Program}
 use Rattle.pld_ast.specs.Sound.{IsSound}

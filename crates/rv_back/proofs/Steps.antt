@@ -1,12 +1,12 @@
 -- Stretches of the softcore's code.
-use Rattle.std.proofs.Common.{◌≡◌, ℕ, zero, suc, ◌+◌, ◌-◌, ◌*◌, ◌/◌, ◌%◌, ◌<◌, ◌≤◌, ◌^◌, List, [], ◌∷◌, ◌++◌, length, Option, Some, None, refl, sym, ap, ◌∙◌, subst, ⊎_elim, arith, append_assoc, length-append, Bool, true, false, eq-eqb}
-use Rattle.std.specs.Prelude.{ℤ, pos, negsuc, nat_lt, nat_le, nat_eq, if◌then◌else◌}
+use Rattle.std.proofs.Common.{◌≡◌, ℕ, zero, suc, ◌+◌, ◌-◌, ◌*◌, ◌/◌, ◌%◌, ◌<◌, ◌≤◌, ◌^◌, List, [], ◌∷◌, ◌++◌, length, Some, None, refl, sym, ap, ◌∙◌, subst, arith, Bool, true, false, eq-eqb}
+use Rattle.std.specs.Prelude.{pos, nat_lt, nat_eq, if◌then◌else◌}
 use Rattle.std.proofs.lemmas.Bool.Decides.{nat_tests}
 use Rattle.std.proofs.lemmas.Bool.{ltb-true, ltb-false}
 use Rattle.pld_base.specs.Words.{sum_of, product_of}
 use Rattle.pld_base.specs.declared.event.Event.{Event}
 use Rattle.rv_isa.specs.declared.instr.Instr.{Instr}
-use Rattle.rv_core.specs.Machine.{Machine, Went, Code, act, act_if, fetched, soft_step, place_of, InRam, AtPort, Nowhere, extended}
+use Rattle.rv_core.specs.Machine.{Machine, Went, Code, act, act_if, fetched, soft_step, place_of, InRam, AtPort, extended}
 use Rattle.rv_core.specs.Page.{Page, move, moved}
 use Rattle.rv_core.specs.Process.{page_after}
 use Rattle.rv_back.specs.Code.{neg_of, high_of, low_of}
