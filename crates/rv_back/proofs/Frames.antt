@@ -78,6 +78,15 @@ kept_on le a b = record {
   ram = λ w h. b.ram w (omega arith) ∙ a.ram w h;
 }
 
+-- only registers below 12 have changed, and no pointer
+pub kept_by : {m to : Machine} → to.regs 2 ≡ m.regs 2 → to.regs 8 ≡ m.regs 8 → to.regs 9 ≡ m.regs 9 → ((r : ℕ) → 12 ≤ r → to.regs r ≡ m.regs r) → to.ram ≡ m.ram → Kept 8128 m to
+kept_by x2 x8 x9 high ram = record { x2 = x2; x8 = x8; x9 = x9; high = high; ram = λ w h. ap (λ f. f w) ram }
+
+-- v is in x10, and the rest is kept
+pub record Gives (v : ℕ) (m to : Machine) : Type 0 where
+  pub x10 : to.regs 10 ≡ v
+  pub kept : Kept 8128 m to
+
 -- the machine's variables are the program's
 pub record Frame (g : Program) (st : State) (m : Machine) : Type 0 where
   pub x8 : m.regs 8 ≡ 0x20000

@@ -7,6 +7,7 @@ pub mod Lines
 pub mod Parts
 pub mod Processes
 pub mod Realised
+pub mod Runs
 pub mod Steps
 pub mod Values
 pub mod Whole

@@ -25,10 +25,12 @@ use Rattle.pld_ast.specs.Sound.{IsSound}
 use Rattle.pld_ast.specs.Meaning.{Outcome, Goes, Over, meaning, trace_of, start, trace}
 use Rattle.rv_back.specs.Code.{prologue, action_code, soft_code}
 use Rattle.rv_back.proofs.Lengths.{program_short}
-use Rattle.rv_back.proofs.Steps.{HasAt, has_front, has_back, IsShort, Line, on, line_moves, moves_on, step_is, page_after-sum, page_stays}
+use Rattle.rv_back.proofs.Steps.{HasAt, has_front, has_back, IsShort, Leads, page_of, line_moves, moves_on, step_is, page_after-sum, page_stays}
 use Rattle.rv_back.proofs.AreWords.{WroteWords}
 use Rattle.rv_back.proofs.Frames.{past, past2, Frame}
-use Rattle.rv_back.proofs.Actions.{EndsAt, Runs, action_runs, later}
+use Rattle.rv_back.proofs.Values.{Ready}
+use Rattle.rv_back.proofs.Runs.{EndsAt, Runs, later}
+use Rattle.rv_back.proofs.Actions.{action_runs}
 use Rattle.rv_back.proofs.Processes.{end_of, page_told}
 
 -- ---- the whole code at its places
@@ -104,72 +106,99 @@ front_words [] rest h = All-nil IsWord
 front_words (x ∷ xs) rest h = All-cons IsWord x xs (All-head IsWord x (xs ++ rest) h) (front_words xs rest (All-tail IsWord x (xs ++ rest) h))
 
 -- after the prologue
-prologue_line : (ins outs : ℕ) → (to : Machine) × Line ins outs prologue at_start to × (to.regs 2 ≡ 0x28100) × (to.regs 8 ≡ 0x20000) × (to.regs 9 ≡ 0x8000_0000) × ((r : ℕ) → 12 ≤ r → to.regs r ≡ 0) × ((w : ℕ) → to.ram w ≡ 0)
-prologue_line ins outs = (_, (_, refl, refl, (_, refl, refl, (_, refl, refl, (_, refl, refl, refl)))), refl, refl, refl, λ r l. past2 _ _ r l ∙ past2 _ _ r l ∙ past 9 _ _ r (omega arith) l ∙ past 8 _ _ r (omega arith) l, λ w. refl)
+record Prologued (m : Machine) : Type 0 where
+  x2 : m.regs 2 ≡ 0x28100
+  x8 : m.regs 8 ≡ 0x20000
+  x9 : m.regs 9 ≡ 0x8000_0000
+  high : (r : ℕ) → 12 ≤ r → m.regs r ≡ 0
+  ram : (w : ℕ) → m.ram w ≡ 0
+
+prologue_line : (ins outs : ℕ) → Leads ins outs prologue at_start Prologued
+prologue_line ins outs = record {
+  to = _;
+  line = (_, refl, refl, (_, refl, refl, (_, refl, refl, (_, refl, refl, refl))));
+  holds = record { x2 = refl; x8 = refl; x9 = refl; high = λ r l. past2 _ _ r l ∙ past2 _ _ r l ∙ past 9 _ _ r (omega arith) l ∙ past 8 _ _ r (omega arith) l; ram = λ w. refl };
+}
 
 module _ (g : Program) (sound : IsSound g) where
-  short : IsShort (slice_get (soft_code g))
+  abbrev code : Code
+  code = slice_get (soft_code g)
+
+  short : IsShort code
   short = is_short (soft_code g) (omega (arith, program_short g.lengths g.body 1000 sound.nodes))
 
-  has : HasAt (slice_get (soft_code g)) 0 (prologue ++ (action_code g.lengths g.body ++ Ebreak ∷ []))
+  has : HasAt code 0 (prologue ++ (action_code g.lengths g.body ++ Ebreak ∷ []))
   has = has_all (soft_code g) []
 
-  has_body : HasAt (slice_get (soft_code g)) 4 (action_code g.lengths g.body ++ Ebreak ∷ [])
-  has_body = has_back (slice_get (soft_code g)) 0 prologue (action_code g.lengths g.body ++ Ebreak ∷ []) has
+  has_body : HasAt code 4 (action_code g.lengths g.body ++ Ebreak ∷ [])
+  has_body = has_back code 0 prologue (action_code g.lengths g.body ++ Ebreak ∷ []) has
 
-  start_frame : (ins : Inputs) (m : Machine) → AreWords ins → m.regs 8 ≡ 0x20000 → m.regs 9 ≡ 0x8000_0000 → ((r : ℕ) → 12 ≤ r → m.regs r ≡ 0) → ((w : ℕ) → m.ram w ≡ 0) → Frame g (start ins) m
-  start_frame ins m words x8 x9 high ram = record {
-    x8 = x8;
-    x9 = x9;
-    near = λ s h l. high (12 + s) (omega arith);
-    far = λ s h l. ram s;
-    arrays = λ t i h j. ram _;
-    words = record { scalars = λ s. omega arith; arrays = λ t i. omega arith; left = words; written = λ p. All-nil IsWord };
+  start_frame : (ins : Inputs) (m : Machine) → AreWords ins → Prologued m → Frame g (start ins) m
+  start_frame ins m words p = record {
+    x8 = p.x8;
+    x9 = p.x9;
+    near = λ s h l. p.high (12 + s) (omega arith);
+    far = λ s h l. p.ram s;
+    arrays = λ t i h j. p.ram _;
+    words = record { scalars = λ s. omega arith; arrays = λ t i. omega arith; left = words; written = λ q. All-nil IsWord };
   }
 
   abbrev after : Inputs → ℕ → Page
-  after ins k = page_after (slice_get (soft_code g)) g.ins g.outs k (page_on ins)
+  after ins k = page_after code g.ins g.outs k (page_on ins)
 
   -- moves that give this outcome of n turns, and its words
   record Found (ins : Inputs) (n : ℕ) (o : Outcome) : Type 0 where
     moves : ℕ
     events : (after ins moves).events ≡ (trace_of o).events
-    ends : EndsAt (standing (slice_get (soft_code g)) g.ins g.outs (after ins moves)) n moves (trace_of o).end
+    ends : EndsAt (standing code g.ins g.outs (after ins moves)) n moves (trace_of o).end
     wrote : WroteWords (trace_of o).events
 
-  found : (ins : Inputs) (n : ℕ) (m : Machine) (o : Outcome) → after ins 4 ≡ on m ins [] → Runs g (slice_get (soft_code g)) n (4 + length (action_code g.lengths g.body)) (on m ins []) o → Found ins n o
+  found : (ins : Inputs) (n : ℕ) (m : Machine) (o : Outcome) → after ins 4 ≡ page_of m (start ins) → Runs g code n (4 + length (action_code g.lengths g.body)) (page_of m (start ins)) o → Found ins n o
   found ins n m (Goes st) e r =
-      let all : after ins (4 + r.steps) ≡ on r.to st.left st.events = moves_on (slice_get (soft_code g)) short g.ins g.outs 4 r.steps (page_on ins) (on m ins []) (on r.to st.left st.events) e r.by in
-      let last : soft_step (slice_get (soft_code g)) g.ins g.outs r.to ≡ Ended = step_is (slice_get (soft_code g)) short g.ins g.outs (4 + length (action_code g.lengths g.body)) Ebreak r.to (has_back (slice_get (soft_code g)) 4 (action_code g.lengths g.body) (Ebreak ∷ []) has_body).0 r.at in
-      record { moves = 4 + r.steps; events = ap (λ s. s.events) all; ends = ap (standing (slice_get (soft_code g)) g.ins g.outs) all ∙ ap (λ s. stands s (on r.to st.left st.events)) last; wrote = r.frame.words.written }
+      let all : after ins (4 + r.steps) ≡ page_of r.to st = moves_on code short g.ins g.outs 4 r.steps (page_on ins) (page_of m (start ins)) (page_of r.to st) e r.by in
+      let ebreak = (has_back code 4 (action_code g.lengths g.body) (Ebreak ∷ []) has_body).0 in
+      let last : soft_step code g.ins g.outs r.to ≡ Ended = step_is code short g.ins g.outs (4 + length (action_code g.lengths g.body)) Ebreak r.to ebreak r.ready.at in
+      record {
+        moves = 4 + r.steps;
+        events = ap (λ s. s.events) all;
+        ends = ap (standing code g.ins g.outs) all ∙ ap (λ s. stands s (page_of r.to st)) last;
+        wrote = r.ready.frame.words.written;
+      }
   found ins n m (Over d events) e r =
-      let all : after ins (4 + r.steps) ≡ r.to = moves_on (slice_get (soft_code g)) short g.ins g.outs 4 r.steps (page_on ins) (on m ins []) r.to e r.by in
-      record { moves = 4 + r.steps; events = ap (λ s. s.events) all ∙ r.has; ends = subst (λ s. EndsAt (standing (slice_get (soft_code g)) g.ins g.outs s) n (4 + r.steps) d) (sym all) (later (standing (slice_get (soft_code g)) g.ins g.outs r.to) n 4 r.steps d r.stands); wrote = r.wrote }
+      let all : after ins (4 + r.steps) ≡ r.to = moves_on code short g.ins g.outs 4 r.steps (page_on ins) (page_of m (start ins)) r.to e r.by in
+      record {
+        moves = 4 + r.steps;
+        events = ap (λ s. s.events) all ∙ r.has;
+        ends = subst (λ s. EndsAt (standing code g.ins g.outs s) n (4 + r.steps) d) (sym all) (later (standing code g.ins g.outs r.to) n 4 r.steps d r.stands);
+        wrote = r.wrote;
+      }
 
   tracks : (ins : Inputs) → AreWords ins → (n : ℕ) → Found ins n (meaning g.lengths g.body n (start ins))
   tracks ins words n = by_line (prologue_line g.ins g.outs)
     where
-      by_line : ((to : Machine) × Line g.ins g.outs prologue at_start to × (to.regs 2 ≡ 0x28100) × (to.regs 8 ≡ 0x20000) × (to.regs 9 ≡ 0x8000_0000) × ((r : ℕ) → 12 ≤ r → to.regs r ≡ 0) × ((u : ℕ) → to.ram u ≡ 0)) → Found ins n (meaning g.lengths g.body n (start ins))
-      by_line l =
-          let r = line_moves (slice_get (soft_code g)) short g.ins g.outs prologue 0 at_start l.0 ins [] (has_front (slice_get (soft_code g)) 0 prologue (action_code g.lengths g.body ++ Ebreak ∷ []) has) refl l.1 in
-          found ins n l.0 (meaning g.lengths g.body n (start ins)) r.0 (action_runs g sound (slice_get (soft_code g)) short g.body n 4 (start ins) l.0 sound.known sound.nodes (has_front (slice_get (soft_code g)) 4 (action_code g.lengths g.body) (Ebreak ∷ []) has_body) r.1 (start_frame ins l.0 words l.3 l.4 l.5 l.6) l.2)
+      by_line : Leads g.ins g.outs prologue at_start Prologued → Found ins n (meaning g.lengths g.body n (start ins))
+      by_line a =
+          let body = action_code g.lengths g.body in
+          let moves = line_moves code short g.ins g.outs prologue 0 at_start a.to ins [] (has_front code 0 prologue (body ++ Ebreak ∷ []) has) refl a.line in
+          let ready : Ready g 4 0 (start ins) a.to = record { at = moves.1; frame = start_frame ins a.to words a.holds; x2 = a.holds.x2 } in
+          found ins n a.to (meaning g.lengths g.body n (start ins)) moves.0 (action_runs g sound code short g.body n 4 (start ins) a.to sound.known sound.nodes (has_front code 4 body (Ebreak ∷ []) has_body) ready)
 
   keeps_up : KeepsUp (soft_process (soft_code g) g.ins g.outs) (trace g)
   keeps_up ins words turns = by_found (tracks ins words turns)
     where
       by_found : Found ins turns (meaning g.lengths g.body turns (start ins)) → (moves : ℕ) × (soft_process (soft_code g) g.ins g.outs ins moves ≡ trace g ins turns) × ((trace g ins turns).end ≡ Cut → turns ≤ moves)
       by_found f =
-          let told = page_told (slice_get (soft_code g)) g.ins g.outs f.moves at_start ins [] in
+          let told = page_told code g.ins g.outs f.moves at_start ins [] in
           (f.moves, same_trace (soft_process (soft_code g) g.ins g.outs ins f.moves) (trace g ins turns) (sym told.events ∙ f.events) (sym told.end ∙ same_end _ turns f.moves (trace g ins turns).end f.ends), cut_later _ turns f.moves (trace g ins turns).end f.ends)
 
   pub code_realises : Realises (soft_process (soft_code g) g.ins g.outs) (trace g)
   code_realises =
-      keeping_up_realises (soft_process (soft_code g) g.ins g.outs) (trace g) (machine_laws (soft_next (slice_get (soft_code g)) g.ins g.outs) at_start) keeps_up
+      keeping_up_realises (soft_process (soft_code g) g.ins g.outs) (trace g) (machine_laws (soft_next code g.ins g.outs) at_start) keeps_up
 
   pub code_never_traps : NeverTraps (soft_code g) g.ins g.outs
   code_never_traps ins words k =
       let f = tracks ins words k in
-      not_trapped (slice_get (soft_code g)) g.ins g.outs (page_on ins) k f.moves (trace g ins k).end f.ends
+      not_trapped code g.ins g.outs (page_on ins) k f.moves (trace g ins k).end f.ends
 
   pub code_writes_words : WritesWords (soft_process (soft_code g) g.ins g.outs)
   code_writes_words ins words moves p =

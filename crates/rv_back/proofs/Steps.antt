@@ -9,6 +9,7 @@ use Rattle.rv_isa.specs.declared.instr.Instr.{Instr}
 use Rattle.rv_core.specs.Machine.{Machine, Went, Code, act, act_if, fetched, soft_step, place_of, InRam, AtPort, extended}
 use Rattle.rv_core.specs.Page.{Page, move, moved}
 use Rattle.rv_core.specs.Process.{page_after}
+use Rattle.pld_ast.specs.Meaning.{State}
 use Rattle.rv_back.specs.Code.{neg_of, high_of, low_of}
 
 -- the page after j moves and k more
@@ -64,9 +65,28 @@ Line ins outs (i ∷ is) m to = (m' : Machine) × (act ins outs i m ≡ Went m')
 abbrev pub on : Machine → (ℕ → List ℕ) → List Event → Page
 on m left events = record { machine = m; left = left; events = events }
 
-pub line_join : (ins outs : ℕ) (a b : List Instr) (m m1 m2 : Machine) → Line ins outs a m m1 → Line ins outs b m1 m2 → Line ins outs (a ++ b) m m2
+-- a machine with a state's words to read and its events
+abbrev pub page_of : Machine → State → Page
+page_of m st = on m st.left st.events
+
+-- these instructions lead to a machine of which this holds
+pub record Leads (ins outs : ℕ) (is : List Instr) (m : Machine) (Holds : Machine → Type 0) : Type 0 where
+  pub to : Machine
+  pub line : Line ins outs is m to
+  pub holds : Holds to
+
+line_join : (ins outs : ℕ) (a b : List Instr) (m m1 m2 : Machine) → Line ins outs a m m1 → Line ins outs b m1 m2 → Line ins outs (a ++ b) m m2
 line_join ins outs [] b m m1 m2 h k = subst (λ x. Line ins outs b x m2) (sym h) k
 line_join ins outs (i ∷ a) b m m1 m2 h k = (h.0, h.1, h.2, line_join ins outs a b h.0 m1 m2 h.3 k)
+
+-- a stretch after another
+pub lead_on : {ins outs : ℕ} {is js : List Instr} {m : Machine} {P Q : Machine → Type 0} → Leads ins outs is m P → ((m1 : Machine) → P m1 → Leads ins outs js m1 Q) → Leads ins outs (is ++ js) m Q
+lead_on {ins} {outs} {is} {js} {m} a f =
+    let b = f a.to a.holds in
+    record { to = b.to; line = line_join ins outs is js m a.to b.to a.line b.line; holds = b.holds }
+
+pub lead_with : {ins outs : ℕ} {is : List Instr} {m : Machine} {P Q : Machine → Type 0} → Leads ins outs is m P → ((to : Machine) → P to → Q to) → Leads ins outs is m Q
+lead_with a f = record { to = a.to; line = a.line; holds = f a.to a.holds }
 
 module _ (code : Code) (short : IsShort code) (ins outs : ℕ) where
   abbrev go : ℕ → Page → Page
