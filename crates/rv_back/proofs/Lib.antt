@@ -1,4 +1,13 @@
+pub mod Actions
+pub mod AreWords
 pub mod Closing
+pub mod Frames
 pub mod Lengths
+pub mod Lines
 pub mod Parts
+pub mod Processes
+pub mod Realised
+pub mod Runs
+pub mod Steps
+pub mod Values
 pub mod Whole

@@ -1,0 +1,136 @@
+-- Every value of a program is a word.
+use Rattle.std.proofs.Common.{◌≡◌, ℕ, zero, suc, ◌-◌, ◌/◌, ◌%◌, ◌<◌, ◌≤◌, ◌^◌, List, refl, arith, Bool, true, false}
+use Rattle.std.proofs.lemmas.Bool.{ltb-false}
+use Rattle.std.proofs.lemmas.Nat.{or_lt, xor_lt, and_le_l}
+use Rattle.std.proofs.Math.Nat.{div-le_self}
+use Rattle.std.specs.Prelude.{nat_lt, if◌then◌else◌, All}
+use Rattle.pld_base.specs.Events.{words_written}
+use Rattle.pld_base.specs.declared.event.Event.{Event}
+use Rattle.pld_base.specs.Words.{IsWord, truth_of, quotient_signed, quotient_unsigned, remainder_signed, remainder_unsigned, shifted_right, shifted_right_signed, size_of, is_same_sign}
+use Rattle.pld_ast.specs.Program.{Signed, Unsigned, Operation1, Keep, Negate, Flip, IsZero, Operation2, EitherOf, BothOf, BitOr, BitXor, BitAnd, Equal, Unequal, Less, AtMost, More, AtLeast, ShiftLeft, ShiftRight, Plus, Minus, Times, Quotient, Remainder, Value, Number, Scalar, Element, Op1, Op2, Program}
+use Rattle.pld_ast.specs.Meaning.{State, is_zero, is_other, either_of, both_of, unary_of, binary_of, index_in, value_of}
+use Rattle.pld_ast.specs.Sound.{IsKnownValue}
+
+is_zero_word : (a : ℕ) → is_zero a < 2 ^ 32
+is_zero_word zero = omega arith
+is_zero_word (suc a) = omega arith
+
+is_other_word : (a : ℕ) → is_other a < 2 ^ 32
+is_other_word zero = omega arith
+is_other_word (suc a) = omega arith
+
+truth_word : (b : Bool) → truth_of b < 2 ^ 32
+truth_word true = omega arith
+truth_word false = omega arith
+
+either_word : (a b : ℕ) → either_of a b < 2 ^ 32
+either_word zero b = is_other_word b
+either_word (suc a) b = omega arith
+
+both_word : (a b : ℕ) → both_of a b < 2 ^ 32
+both_word zero b = omega arith
+both_word (suc a) b = is_other_word b
+
+if_word : (b : Bool) (x y : ℕ) → x < 2 ^ 32 → y < 2 ^ 32 → (if b then x else y) < 2 ^ 32
+if_word true x y h k = h
+if_word false x y h k = k
+
+div_word : (a b : ℕ) → a < 2 ^ 32 → a / b < 2 ^ 32
+div_word a b h = grind arith
+
+mod_word : (a b : ℕ) → a < 2 ^ 32 → a % suc b < 2 ^ 32
+mod_word a b h = grind arith
+
+modulo_word : (a : ℕ) → a % 2 ^ 32 < 2 ^ 32
+modulo_word a = omega arith
+
+shifted_word : (a b : ℕ) → a < 2 ^ 32 → shifted_right a b < 2 ^ 32
+shifted_word a b h = omega (arith, div-le_self a (2 ^ (b % 32)))
+
+signed_shift_word : (a b : ℕ) → a < 2 ^ 32 → shifted_right_signed a b < 2 ^ 32
+signed_shift_word a b h =
+    if_word (nat_lt a (2 ^ 31)) _ _ (shifted_word a b h) (let d = (2 ^ 32 - 1 - a) / 2 ^ (b % 32) in let k : 2 ^ 32 - 1 - d < 2 ^ 32 = omega arith in k)
+
+size_word : (a : ℕ) → a < 2 ^ 32 → 0 < a → size_of a < 2 ^ 32
+size_word a h p = if_word (nat_lt a (2 ^ 31)) _ _ h (omega arith)
+
+size_small : (a : ℕ) → a < 2 ^ 32 → size_of a < 2 ^ 32
+size_small a h = small (nat_lt a (2 ^ 31)) refl
+  where
+    small : (b : Bool) → nat_lt a (2 ^ 31) ≡ b → (if b then a else 2 ^ 32 - a) < 2 ^ 32
+    small true e = h
+    small false e = let low : 2 ^ 31 ≤ a = ltb-false a (2 ^ 31) e in omega arith
+
+quotient_word : (a b : ℕ) → a < 2 ^ 32 → quotient_signed a b < 2 ^ 32
+quotient_word a zero h = omega arith
+quotient_word a (suc b) h =
+    if_word (is_same_sign a (suc b)) _ _ (div_word (size_of a) (size_of (suc b)) (size_small a h)) (modulo_word _)
+
+-- a remainder by 0 is the dividend
+any_mod_word : (a b : ℕ) → a < 2 ^ 32 → a % b < 2 ^ 32
+any_mod_word a zero h = grind arith
+any_mod_word a (suc b) h = mod_word a b h
+
+remainder_word : (a b : ℕ) → a < 2 ^ 32 → remainder_signed a b < 2 ^ 32
+remainder_word a zero h = h
+remainder_word a (suc b) h =
+    if_word (nat_lt a (2 ^ 31)) _ _ (any_mod_word (size_of a) (size_of (suc b)) (size_small a h)) (modulo_word _)
+
+unsigned_quotient_word : (a b : ℕ) → a < 2 ^ 32 → quotient_unsigned a b < 2 ^ 32
+unsigned_quotient_word a zero h = omega arith
+unsigned_quotient_word a (suc b) h = div_word a (suc b) h
+
+unsigned_remainder_word : (a b : ℕ) → a < 2 ^ 32 → remainder_unsigned a b < 2 ^ 32
+unsigned_remainder_word a zero h = h
+unsigned_remainder_word a (suc b) h = mod_word a b h
+
+unary_word : (o : Operation1) (a : ℕ) → a < 2 ^ 32 → unary_of o a < 2 ^ 32
+unary_word Keep a h = h
+unary_word Negate a h = modulo_word _
+unary_word Flip a h = xor_lt 32 a (2 ^ 32 - 1) h (omega arith)
+unary_word IsZero a h = is_zero_word a
+
+binary_word : (o : Operation2) (a b : ℕ) → a < 2 ^ 32 → b < 2 ^ 32 → binary_of o a b < 2 ^ 32
+binary_word EitherOf a b h k = either_word a b
+binary_word BothOf a b h k = both_word a b
+binary_word BitOr a b h k = or_lt 32 a b h k
+binary_word BitXor a b h k = xor_lt 32 a b h k
+binary_word BitAnd a b h k = let le = and_le_l a b in omega arith
+binary_word Equal a b h k = truth_word _
+binary_word Unequal a b h k = is_zero_word _
+binary_word (Less Signed) a b h k = truth_word _
+binary_word (Less Unsigned) a b h k = truth_word _
+binary_word (AtMost Signed) a b h k = is_zero_word _
+binary_word (AtMost Unsigned) a b h k = is_zero_word _
+binary_word (More Signed) a b h k = truth_word _
+binary_word (More Unsigned) a b h k = truth_word _
+binary_word (AtLeast Signed) a b h k = is_zero_word _
+binary_word (AtLeast Unsigned) a b h k = is_zero_word _
+binary_word ShiftLeft a b h k = modulo_word _
+binary_word (ShiftRight Signed) a b h k = signed_shift_word a b h
+binary_word (ShiftRight Unsigned) a b h k = shifted_word a b h
+binary_word Plus a b h k = modulo_word _
+binary_word Minus a b h k = modulo_word _
+binary_word Times a b h k = modulo_word _
+binary_word (Quotient Signed) a b h k = quotient_word a b h
+binary_word (Quotient Unsigned) a b h k = unsigned_quotient_word a b h
+binary_word (Remainder Signed) a b h k = remainder_word a b h
+binary_word (Remainder Unsigned) a b h k = unsigned_remainder_word a b h
+
+-- whatever is written is a word
+abbrev pub WroteWords : List Event → Type 0
+WroteWords events = (p : ℕ) → All IsWord (words_written events p)
+
+-- the variables, the words to read and those that were written
+pub record StateWords (st : State) : Type 0 where
+  pub scalars : (s : ℕ) → IsWord (st.scalars s)
+  pub arrays : (t i : ℕ) → IsWord (st.arrays t i)
+  pub left : (p : ℕ) → All IsWord (st.left p)
+  pub written : WroteWords st.events
+
+pub value_word : (g : Program) (e : Value) (st : State) → IsKnownValue g e → StateWords st → IsWord (value_of g.lengths e st)
+value_word g (Number v) st f w = f
+value_word g (Scalar s) st f w = w.scalars s
+value_word g (Element t e) st f w = w.arrays t (index_in g.lengths t (value_of g.lengths e st))
+value_word g (Op1 o a) st f w = unary_word o (value_of g.lengths a st) (value_word g a st f w)
+value_word g (Op2 o a b) st f w = binary_word o (value_of g.lengths a st) (value_of g.lengths b st) (value_word g a st f.0 w) (value_word g b st f.1 w)

@@ -1,0 +1,80 @@
+-- A softcore's pages, as a process.
+use Rattle.std.proofs.Common.{◌≡◌, ℕ, zero, suc, List, [], ◌∷◌, ◌++◌, refl, sym, ap, ◌∙◌, subst, append_assoc, append-nil, inl, inr}
+use Rattle.std.proofs.Math.Path.{fun_ext}
+use Rattle.std.specs.Prelude.{if◌then◌else◌}
+use Rattle.std.proofs.lemmas.Bool.{eq-eqb, ne_eqb}
+use Rattle.std.proofs.lemmas.Bool.Decides.{eqb_tells}
+use Rattle.pld_base.specs.Lists.{with, port}
+use Rattle.pld_base.specs.Pages.{Standing, Going, Ended as HasEnded, Trapped as HasTrapped, Waits}
+use Rattle.pld_base.specs.Process.{TraceEnd, Returned, Starved, Cut, Trace, Inputs}
+use Rattle.pld_base.specs.Machine.{rest_of, past_first, goes_on_after, fed, standing as stops_at, moved as goes_on, run}
+use Rattle.pld_base.specs.declared.event.Event.{Event}
+use Rattle.pld_base.specs.declared.event.Event.TheVariants.{Read, Write}
+use Rattle.rv_core.specs.Machine.{Machine, Step, Went, AtRead, AtWrite, Ended, Trapped, Code, next, soft_step}
+use Rattle.rv_core.specs.Page.{Page, resumed, take_word, move, moved, standing, standing_at, stands}
+use Rattle.rv_core.specs.Process.{move_of, soft_next, page_after}
+use Rattle.rv_back.proofs.Steps.{on, page_stays}
+
+-- the end of a trace where a page stands so
+abbrev pub end_of : Standing → TraceEnd
+end_of Going = Cut
+end_of HasEnded = Returned
+end_of HasTrapped = Returned
+end_of (Waits p) = Starved p
+
+-- the words that are left once the first at a port was read
+left_past : (p w : ℕ) (ws : List ℕ) (left : Inputs) → left p ≡ w ∷ ws → with left p ws ≡ past_first p left
+left_past p w ws left e = fun_ext here
+  where
+    here : (q : ℕ) → with left p ws q ≡ past_first p left q
+    here q = elim (eqb_tells q p) as (λ _. with left p ws q ≡ past_first p left q) [
+      | inl h ↦ ap (λ b. if b then ws else left q) h.0 ∙ sym (ap rest_of (ap left h.1 ∙ e)) ∙ sym (ap (λ b. if b then rest_of (left q) else left q) (eq-eqb p q (sym h.1)))
+      | inr h ↦ ap (λ b. if b then ws else left q) h.0 ∙ sym (ap (λ b. if b then rest_of (left q) else left q) (ne_eqb p q (λ same. h.1 (sym same))))
+    ]
+
+module _ (code : Code) (ins outs : ℕ) where
+  -- a page has these events more than before, and stands where their trace ends
+  pub record ToldBy (s : Page) (before : List Event) (t : Trace) : Type 0 where
+    pub events : s.events ≡ before ++ t.events
+    pub end : end_of (standing code ins outs s) ≡ t.end
+
+  stays_told : (n : ℕ) (s : Page) (before : List Event) (t : Trace) → move code ins outs s ≡ s → ToldBy s before t → ToldBy (page_after code ins outs n s) before t
+  stays_told n s before t e told = subst (λ x. ToldBy x before t) (sym (page_stays code ins outs s e n)) told
+
+  -- with no move left
+  stop_told : (s : Step) (m : Machine) (left : Inputs) (events : List Event) → soft_step code ins outs m ≡ s → ToldBy (on m left events) events (stops_at (move_of s m) left)
+  stop_told (Went n) m left events e = record { events = sym (append-nil events); end = ap (λ x. end_of (stands x (on m left events))) e }
+  stop_told (AtRead p rd) m left events e = at_list (left p) refl
+    where
+      at_list : (ws : List ℕ) → left p ≡ ws → ToldBy (on m left events) events (fed p ws (λ w. record { events = []; end = Cut }))
+      at_list [] l = record { events = sym (append-nil events); end = ap (λ x. end_of (stands x (on m left events))) e ∙ ap (λ x. end_of (standing_at p x)) l }
+      at_list (w ∷ ws) l = record { events = sym (append-nil events); end = ap (λ x. end_of (stands x (on m left events))) e ∙ ap (λ x. end_of (standing_at p x)) l }
+  stop_told (AtWrite p w) m left events e = record { events = sym (append-nil events); end = ap (λ x. end_of (stands x (on m left events))) e }
+  stop_told Ended m left events e = record { events = sym (append-nil events); end = ap (λ x. end_of (stands x (on m left events))) e }
+  stop_told Trapped m left events e = record { events = sym (append-nil events); end = ap (λ x. end_of (stands x (on m left events))) e }
+
+  -- an event, and what follows it
+  event_told : (s : Page) (before : List Event) (x : Event) (t : Trace) → ToldBy s (before ++ x ∷ []) t → ToldBy s before (goes_on_after x t)
+  event_told s before x t told = record { events = told.events ∙ append_assoc before (x ∷ []) t.events; end = told.end }
+
+  -- with one move and what follows it
+  move_told : (n : ℕ) (s : Step) (m : Machine) (left : Inputs) (events : List Event) → soft_step code ins outs m ≡ s → ((m1 : Machine) (left1 : Inputs) (events1 : List Event) → ToldBy (page_after code ins outs n (on m1 left1 events1)) events1 (run (soft_next code ins outs) n m1 left1)) → ToldBy (page_after code ins outs n (moved s (on m left events))) events (goes_on (move_of s m) left (run (soft_next code ins outs) n))
+  move_told n (Went m1) m left events e rest = rest m1 left events
+  move_told n (AtRead p rd) m left events e rest = at_list (left p) refl
+    where
+      at_list : (ws : List ℕ) → left p ≡ ws → ToldBy (page_after code ins outs n (take_word p rd ws (on m left events))) events (fed p ws (λ w. goes_on_after (Read (record { 0 = p }) w) (run (soft_next code ins outs) n (resumed m rd w) (past_first p left))))
+      at_list [] l =
+          stays_told n (on m left events) events _ (ap (λ x. moved x (on m left events)) e ∙ ap (λ x. take_word p rd x (on m left events)) l) (record { events = sym (append-nil events); end = ap (λ x. end_of (stands x (on m left events))) e ∙ ap (λ x. end_of (standing_at p x)) l })
+      at_list (w ∷ ws) l =
+          let after : ToldBy (page_after code ins outs n (on (resumed m rd w) (with left p ws) (events ++ Read (port p) w ∷ []))) (events ++ Read (port p) w ∷ []) (run (soft_next code ins outs) n (resumed m rd w) (past_first p left)) = subst (λ x. ToldBy (page_after code ins outs n (on (resumed m rd w) (with left p ws) (events ++ Read (port p) w ∷ []))) (events ++ Read (port p) w ∷ []) (run (soft_next code ins outs) n (resumed m rd w) x)) (left_past p w ws left l) (rest (resumed m rd w) (with left p ws) (events ++ Read (port p) w ∷ [])) in
+          event_told _ events (Read (port p) w) (run (soft_next code ins outs) n (resumed m rd w) (past_first p left)) after
+  move_told n (AtWrite p w) m left events e rest =
+      event_told _ events (Write (port p) w) (run (soft_next code ins outs) n (next m) left) (rest (next m) left (events ++ Write (port p) w ∷ []))
+  move_told n Ended m left events e rest =
+      stays_told n (on m left events) events _ (ap (λ x. moved x (on m left events)) e) (record { events = sym (append-nil events); end = ap (λ x. end_of (stands x (on m left events))) e })
+  move_told n Trapped m left events e rest =
+      stays_told n (on m left events) events _ (ap (λ x. moved x (on m left events)) e) (record { events = sym (append-nil events); end = ap (λ x. end_of (stands x (on m left events))) e })
+
+  pub page_told : (n : ℕ) (m : Machine) (left : Inputs) (events : List Event) → ToldBy (page_after code ins outs n (on m left events)) events (run (soft_next code ins outs) n m left)
+  page_told zero m left events = stop_told (soft_step code ins outs m) m left events refl
+  page_told (suc n) m left events = move_told n (soft_step code ins outs m) m left events refl (page_told n)
