@@ -13,7 +13,7 @@ use Rattle.pld_script.specs.Numbers.{word_in}
 use Rattle.pld_script.specs.declared.line.LineKind.{LineKind}
 use Rattle.pld_script.specs.declared.line.LineKind.TheVariants.{Skipped, Opens, Single}
 use Rattle.pld_script.specs.declared.statement.Statement.{Statement}
-use Rattle.pld_script.specs.declared.statement.Statement.TheVariants.{Op, Input, Output, Feed, Build, Run}
+use Rattle.pld_script.specs.declared.statement.Statement.TheVariants.{Op, Input, Output, Feed, Build, Run, Quit}
 
 -- a comment's first word, which begins with `#`
 abbrev pub starts_comment : List ℕ → Bool
@@ -128,6 +128,7 @@ statement_in (first ∷ words) =
     else if bytes_eq first (codes "feed") then feed_in words
     else if bytes_eq first (codes "build") then alone Build words
     else if bytes_eq first (codes "run") then alone Run words
+    else if bytes_eq first (codes "quit") then alone Quit words
     else None
 
 -- the statement of a line that opens no text, None for a bad line
