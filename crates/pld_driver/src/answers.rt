@@ -12,6 +12,9 @@ use pld_io::{Failed, Sink};
 use pld_script::{Next, Scan, Statement, next_statement};
 use std::alloc::Global;
 
+/// How many bytes most replies have at most.
+const REPLY: usize = 64;
+
 /// Why answers stop.
 #[derive(Clone, Copy, PartialEq, Eq)]
 pub enum Stop {
@@ -153,7 +156,10 @@ fn answer_one<K: Sink, E: Engine>(
     ensures later { K.faults sink.old ≤ K.faults sink.new }
     ensures fault { result ≡ Err Stop.WriteFault → Rose (K.faults sink.old) (K.faults sink.new) }
 {
-    let mut reply = Vec::new(alloc);
+    let mut reply = match Vec::with_capacity(alloc, REPLY) {
+        Ok(reply) => reply,
+        Err(_) => return Err(Stop::NoMemory),
+    };
     let refused = match engine.answer(alloc, number, said, bench, &mut reply) {
         Ok(refused) => refused,
         Err(_) => return Err(Stop::NoMemory),

@@ -20,13 +20,17 @@ abbrev pub starts_comment : List ℕ → Bool
 starts_comment [] = false
 starts_comment (b ∷ word) = b == 35
 
+-- whether a line whose first word is this one opens a text
+abbrev pub opens_text : List ℕ → Bool
+opens_text first = bytes_eq first (codes "op") || bytes_eq first (codes "replace")
+
 -- What a line with these words is, where no text is open: a line without words and a comment are skipped,
 -- and one that begins with `op` or `replace` opens a text.
 abbrev pub kind_of_words : List (List ℕ) → LineKind
 kind_of_words [] = Skipped
 kind_of_words (first ∷ words) =
     if starts_comment first then Skipped
-    else if bytes_eq first (codes "op") || bytes_eq first (codes "replace") then Opens
+    else if opens_text first then Opens
     else Single
 
 -- what a line is, where no text is open
