@@ -1,6 +1,6 @@
 //! Whole sessions, run over sources and sinks in memory. What the replies must be is written by hand.
 
-ghost use Rattle.std.specs.Prelude.{◌≡◌, ◌≤◌, ℕ, [], length, take, vec_len, IfOk};
+ghost use Rattle.std.specs.Prelude.{◌≡◌, ◌≤◌, ◌⊎◌, length, take, vec_len, IfOk};
 
 use pld_io::{MemSink, MemSource};
 use pld_session::{Bench, Options, Status, pld, pld_plain};
@@ -65,13 +65,13 @@ fn adds_one_in_any_pieces(rt: HostRuntime) -> Result<(), Fail> {
 fn first_lines(text: &[u8], count: u64) -> &[u8]
     ensures { result.now ≡ take (length result.now) text.now }
 {
-    let mut lines = 0u64;
+    let mut left = count;
     for (i, b) in text.iter().enumerate() {
-        if lines == count {
+        if left == 0 {
             return &text[..i];
         }
         if *b == b'\n' {
-            lines += 1;
+            left -= 1;
         }
     }
     text
@@ -94,7 +94,7 @@ fn stops_at_each_put(rt: HostRuntime) -> Result<(), Fail> {
 /// The replies to the first bytes of the session, and how it ends. For each statement stand here how
 /// many bytes it has, how many of them are the least that is such a statement, and its replies.
 fn replies_to_cut(rt: &HostRuntime, cut: usize) -> Result<(Vec<u8>, Status), Fail>
-    ensures { IfOk result (λ said. cut ≡ 0 → said.0.items ≡ []) }
+    ensures { IfOk result (λ said. (said.1 ≡ Status.Fine) ⊎ (said.1 ≡ Status.SomeRefused)) }
 {
     let rows: [(usize, usize, &[u8], &[u8]); 6] = [
         (OP, OP - 1, b"ok\n", b"refused 1 BadLine\n"),
