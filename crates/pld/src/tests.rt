@@ -137,7 +137,11 @@ fn ends_at_quit(rt: HostRuntime) -> Result<(), Fail> {
         (b"quit\nhello\n", b"", Status::Fine),
         (b"\n \tquit\t\r\nhello", b"", Status::Fine),
         (b"quit", b"", Status::Fine),
-        (b"hello\nquit\nhello\n", b"refused 1 BadLine\n", Status::SomeRefused),
+        (
+            b"hello\nquit\nhello\n",
+            b"refused 1 BadLine\n",
+            Status::SomeRefused,
+        ),
         (
             b"quit now\n# quit\nhello\n",
             b"refused 1 BadLine\nrefused 3 BadLine\n",
@@ -241,7 +245,13 @@ fn stops_at_each_take(rt: HostRuntime) -> Result<(), Fail> {
         (ADD_ONE, 4096, 2, ADDED, Status::ReadFault),
         (ADD_ONE, 4096, 3, ADDED, Status::Fine),
         (ADD_ONE, OP + 20, 2, b"ok\nok\n", Status::ReadFault),
-        (b"hello\nquit\nhello", 12, 2, b"refused 1 BadLine\n", Status::SomeRefused),
+        (
+            b"hello\nquit\nhello",
+            12,
+            2,
+            b"refused 1 BadLine\n",
+            Status::SomeRefused,
+        ),
     ];
     for row in rows {
         let (status, sink, _) = run(&rt, row.0, 100_000, row.1, (row.2, 0))?;
@@ -266,9 +276,19 @@ fn ends_where_a_text_is_too_long(rt: HostRuntime) -> Result<(), Fail> {
     let rows: [(&[u8], usize, &[u8], Status); 5] = [
         (b"#", 16_777_216, b"", Status::Fine),
         (b"#", 16_777_217, b"", Status::TooLong),
-        (b"hello\n#", 16_777_217, b"refused 1 BadLine\n", Status::TooLong),
+        (
+            b"hello\n#",
+            16_777_217,
+            b"refused 1 BadLine\n",
+            Status::TooLong,
+        ),
         (b"quit\n", 16_777_217, b"", Status::Fine),
-        (b"hello\nquit\n", 16_777_300, b"refused 1 BadLine\n", Status::SomeRefused),
+        (
+            b"hello\nquit\n",
+            16_777_300,
+            b"refused 1 BadLine\n",
+            Status::SomeRefused,
+        ),
     ];
     for row in rows {
         let text = long_text(&rt, row.0, row.1)?;
