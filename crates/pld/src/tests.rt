@@ -1,17 +1,22 @@
 //! Whole sessions, run over sources and sinks in memory. What the replies must be is written by hand.
 
+ghost use Rattle.std.specs.Prelude.{◌≡◌, ◌≤◌, ◌⊎◌, length, take, vec_len, IfOk};
+
 use pld_io::{MemSink, MemSource};
 use pld_session::{Bench, Options, Status, pld, pld_plain};
 use std::test::Fail;
 
 /// Runs a session, whose takes give so many bytes, and in which one take and one put fail (0: none).
+/// A session never ends in Usage.
 fn run(
     rt: &HostRuntime,
     text: &[u8],
     rounds: u64,
     piece: usize,
     fails: (u64, u64),
-) -> Result<(Status, MemSink, u64), Fail> {
+) -> Result<(Status, MemSink, u64), Fail>
+    ensures { IfOk result (λ ran. ran.0 ≡ Status.Usage → ⊥) }
+{
     let options = Options {
         rounds: rounds.min(1_000_000).max(1),
         workers: 1,
@@ -40,16 +45,134 @@ build
 run
 ";
 
+/// How many bytes its operator has, with the line `end`.
+const OP: usize = 151;
+
 const ADDED: &[u8] = b"ok\nok\nok\nok\nbuilt 1 compiled 1\ndone\nout dst 3 6 7 0\n";
 
 #[test]
 fn adds_one_in_any_pieces(rt: HostRuntime) -> Result<(), Fail> {
-    for piece in [1usize, 7, 4096] {
+    for piece in 1..ADD_ONE.len() + 1 {
         let (status, sink, permits) = run(&rt, ADD_ONE, 100_000, piece, (0, 0))?;
         assert_eq!(rt; status, Status::Fine);
         assert_eq!(rt; sink.bytes(), ADDED);
         assert_eq!(rt; permits, 1u64);
     }
+    Ok(())
+}
+
+/// The first lines of a text, so many.
+fn first_lines(text: &[u8], count: u64) -> &[u8]
+    ensures { result.now ≡ take (length result.now) text.now }
+{
+    let mut left = count;
+    for (i, b) in text.iter().enumerate() {
+        if left == 0 {
+            return &text[..i];
+        }
+        if *b == b'\n' {
+            left -= 1;
+        }
+    }
+    text
+}
+
+/// Each line is put by itself, so put k fails behind k - 1 of the seven lines.
+#[test]
+fn stops_at_each_put(rt: HostRuntime) -> Result<(), Fail> {
+    for put in 1u64..8 {
+        let (status, sink, _) = run(&rt, ADD_ONE, 100_000, 4096, (0, put))?;
+        assert_eq!(rt; status, Status::WriteFault);
+        assert_eq!(rt; sink.bytes(), first_lines(ADDED, put - 1));
+    }
+    let (status, sink, _) = run(&rt, ADD_ONE, 100_000, 4096, (0, 8))?;
+    assert_eq!(rt; status, Status::Fine);
+    assert_eq!(rt; sink.bytes(), ADDED);
+    Ok(())
+}
+
+/// The replies to the first bytes of the session, and how it ends. For each statement stand here how
+/// many bytes it has, how many of them are the least that is such a statement, and its replies.
+fn replies_to_cut(rt: &HostRuntime, cut: usize) -> Result<(Vec<u8>, Status), Fail>
+    ensures { IfOk result (λ said. (said.1 ≡ Status.Fine) ⊎ (said.1 ≡ Status.SomeRefused)) }
+{
+    let rows: [(usize, usize, &[u8], &[u8]); 6] = [
+        (OP, OP - 1, b"ok\n", b"refused 1 BadLine\n"),
+        (17, 16, b"ok\n", b"refused 9 BadLine\n"),
+        (18, 15, b"ok\n", b"refused 10 BadLine\n"),
+        (24, 8, b"ok\n", b"refused 11 BadLine\n"),
+        (6, 5, b"built 1 compiled 1\n", b"refused 12 BadLine\n"),
+        (4, 3, b"done\nout dst 3 6 7 0\n", b"refused 13 BadLine\n"),
+    ];
+    let mut replies = Vec::new(rt.alloc());
+    let mut left = cut;
+    for row in rows {
+        if left == 0 {
+            return Ok((replies, Status::Fine));
+        }
+        if left < row.1 {
+            replies.extend_from_slice(row.3)?;
+            return Ok((replies, Status::SomeRefused));
+        }
+        replies.extend_from_slice(row.2)?;
+        left = left.saturating_sub(row.0);
+    }
+    Ok((replies, Status::Fine))
+}
+
+#[test]
+fn answers_what_stands_before_a_cut(rt: HostRuntime) -> Result<(), Fail> {
+    for cut in 0..ADD_ONE.len() + 1 {
+        let (replies, wanted) = replies_to_cut(&rt, cut)?;
+        let (status, sink, _) = run(&rt, &ADD_ONE[..cut], 100_000, 4096, (0, 0))?;
+        assert_eq!(rt; sink.bytes(), replies.as_slice());
+        assert_eq!(rt; status, wanted);
+    }
+    Ok(())
+}
+
+#[test]
+fn ends_at_quit(rt: HostRuntime) -> Result<(), Fail> {
+    let rows: [(&[u8], &[u8], Status); 6] = [
+        (b"quit\nhello\n", b"", Status::Fine),
+        (b"\n \tquit\t\r\nhello", b"", Status::Fine),
+        (b"quit", b"", Status::Fine),
+        (
+            b"hello\nquit\nhello\n",
+            b"refused 1 BadLine\n",
+            Status::SomeRefused,
+        ),
+        (
+            b"quit now\n# quit\nhello\n",
+            b"refused 1 BadLine\nrefused 3 BadLine\n",
+            Status::SomeRefused,
+        ),
+        (
+            b"op f soft\nquit\nend\nquit\nhello\n",
+            b"refused 1 BadLine\n",
+            Status::SomeRefused,
+        ),
+    ];
+    for row in rows {
+        for piece in [1usize, 3, 4096] {
+            let (status, sink, _) = run(&rt, row.0, 100_000, piece, (0, 0))?;
+            assert_eq!(rt; sink.bytes(), row.1);
+            assert_eq!(rt; status, row.2);
+        }
+    }
+    Ok(())
+}
+
+#[test]
+fn refuses_a_line_of_bytes_255(rt: HostRuntime) -> Result<(), Fail> {
+    let mut text = vec![in rt.alloc(); 255u8; 10_000]?;
+    let (status, sink, _) = run(&rt, text.as_slice(), 1, 4096, (0, 0))?;
+    assert_eq!(rt; status, Status::SomeRefused);
+    assert_eq!(rt; sink.bytes(), b"refused 1 BadLine\n".as_slice());
+    text.extend_from_slice(b"\n\nquit\n")?;
+    let (status, sink, _) = run(&rt, text.as_slice(), 1, 1, (0, 0))?;
+    assert_eq!(rt; status, Status::SomeRefused);
+    assert_eq!(rt; sink.bytes(), b"refused 1 BadLine\n".as_slice());
     Ok(())
 }
 
@@ -114,28 +237,79 @@ fn spends_its_steps(rt: HostRuntime) -> Result<(), Fail> {
     Ok(())
 }
 
+/// At a fault of the source all whole statements before were answered. Behind `quit` nothing is taken.
 #[test]
-fn stops_at_a_fault(rt: HostRuntime) -> Result<(), Fail> {
-    let (status, sink, _) = run(&rt, ADD_ONE, 100_000, 100, (2, 0))?;
-    assert_eq!(rt; status, Status::ReadFault);
-    assert_eq!(rt; sink.bytes(), b"".as_slice());
-    let (status, sink, _) = run(&rt, ADD_ONE, 100_000, 4096, (0, 4))?;
-    assert_eq!(rt; status, Status::WriteFault);
-    assert_eq!(rt; sink.bytes(), b"ok\nok\nok\n".as_slice());
+fn stops_at_each_take(rt: HostRuntime) -> Result<(), Fail> {
+    let rows: [(&[u8], usize, u64, &[u8], Status); 5] = [
+        (ADD_ONE, 4096, 1, b"", Status::ReadFault),
+        (ADD_ONE, 4096, 2, ADDED, Status::ReadFault),
+        (ADD_ONE, 4096, 3, ADDED, Status::Fine),
+        (ADD_ONE, OP + 20, 2, b"ok\nok\n", Status::ReadFault),
+        (
+            b"hello\nquit\nhello",
+            12,
+            2,
+            b"refused 1 BadLine\n",
+            Status::SomeRefused,
+        ),
+    ];
+    for row in rows {
+        let (status, sink, _) = run(&rt, row.0, 100_000, row.1, (row.2, 0))?;
+        assert_eq!(rt; status, row.4);
+        assert_eq!(rt; sink.bytes(), row.3);
+    }
     Ok(())
 }
 
+/// A text of so many bytes: first this, then bytes `a`.
+fn long_text(rt: &HostRuntime, first: &[u8], length: usize) -> Result<Vec<u8>, Fail>
+    ensures { IfOk result (λ text. length ≤ vec_len text) }
+{
+    let mut text = first.to_vec(rt.alloc())?;
+    let rest = vec![in rt.alloc(); b'a'; length]?;
+    text.extend_from_slice(&rest[..length.saturating_sub(first.len())])?;
+    Ok(text)
+}
+
 #[test]
-fn refuses_a_text_that_is_too_long(rt: HostRuntime) -> Result<(), Fail> {
-    let mut text = vec![in rt.alloc(); b'a'; 16_777_217]?;
-    text[0] = b'#';
-    let (status, sink, _) = run(&rt, text.as_slice(), 1, 4096, (0, 0))?;
-    assert_eq!(rt; status, Status::TooLong);
-    assert_eq!(rt; sink.bytes(), b"".as_slice());
-    text.truncate(16_777_216);
-    let (status, sink, _) = run(&rt, text.as_slice(), 1, 4096, (0, 0))?;
-    assert_eq!(rt; status, Status::Fine);
-    assert_eq!(rt; sink.bytes(), b"".as_slice());
+fn ends_where_a_text_is_too_long(rt: HostRuntime) -> Result<(), Fail> {
+    let rows: [(&[u8], usize, &[u8], Status); 5] = [
+        (b"#", 16_777_216, b"", Status::Fine),
+        (b"#", 16_777_217, b"", Status::TooLong),
+        (
+            b"hello\n#",
+            16_777_217,
+            b"refused 1 BadLine\n",
+            Status::TooLong,
+        ),
+        (b"quit\n", 16_777_217, b"", Status::Fine),
+        (
+            b"hello\nquit\n",
+            16_777_300,
+            b"refused 1 BadLine\n",
+            Status::SomeRefused,
+        ),
+    ];
+    for row in rows {
+        let text = long_text(&rt, row.0, row.1)?;
+        let (status, sink, _) = run(&rt, text.as_slice(), 1, 4096, (0, 0))?;
+        assert_eq!(rt; status, row.3);
+        assert_eq!(rt; sink.bytes(), row.2);
+    }
+    Ok(())
+}
+
+/// A `quit` counts only where its line end is among the first 16,777,216 bytes.
+#[test]
+fn takes_a_quit_within_the_text(rt: HostRuntime) -> Result<(), Fail> {
+    let rows: [(usize, Status); 2] = [(16_777_210, Status::Fine), (16_777_211, Status::TooLong)];
+    for row in rows {
+        let mut text = long_text(&rt, b"#", row.0)?;
+        text.extend_from_slice(b"\nquit\n\n")?;
+        let (status, sink, _) = run(&rt, text.as_slice(), 1, 4096, (0, 0))?;
+        assert_eq!(rt; status, row.1);
+        assert_eq!(rt; sink.bytes(), b"".as_slice());
+    }
     Ok(())
 }
 

@@ -1,19 +1,24 @@
 -- How what a session makes of its statements is put together.
-use Rattle.std.proofs.Common.{◌≡◌, ℕ, ◌+◌, ◌-◌, ◌<◌, ◌≤◌, Bool, true, false, ◌||◌, List, [], ◌∷◌, ◌++◌, length, take, drop, Option, Some, All, refl, sym, ap, ◌∙◌, append_assoc, append-nil, subst, arith, inr, add_assoc, zero-add, add-zero}
+use Rattle.std.proofs.Common.{◌≡◌, ℕ, ◌+◌, ◌-◌, ◌<◌, ◌≤◌, Bool, true, false, ◌||◌, List, [], ◌∷◌, ◌++◌, length, take, drop, Option, Some, None, All, refl, sym, ap, ◌∙◌, append_assoc, append-nil, subst, arith, inr, add_assoc, zero-add, add-zero}
 use Rattle.std.proofs.lemmas.List.Elements.{All-append, All-cons, All-nil}
-use Rattle.std.proofs.lemmas.List.{drop-drop, length-drop, take_all, drop_all}
+use Rattle.std.proofs.lemmas.List.{drop-drop, length-drop, length-take, take_all, drop_all, take-append-drop, drop-append-le}
 use Rattle.std.specs.Io.KnownBytes.{Appends}
 use Rattle.std.proofs.KnownBytes.{Appends-trans, Appends-nil}
 use Rattle.pld_script.specs.declared.statement.Statement.{Statement}
-use Rattle.pld_script.specs.Statements.{Placed, statements_at, IsFirst, HoldsNone, IsNext}
+use Rattle.pld_script.specs.declared.statement.Statement.TheVariants as says
+use Rattle.pld_script.specs.declared.scan.Scan.{Scan}
+use Rattle.pld_script.proofs.Scanning.{Scanned-new}
+use Rattle.pld_script.specs.Statements.{Placed, statements_at, MayFollow, IsFirst, HoldsNone, HoldsOne, IsNext, Scanned}
 use Rattle.pld_script.specs.declared.next.Next.{Next}
 use Rattle.pld_script.specs.declared.next.Next.TheVariants as next
+use Rattle.pld_driver.specs.declared.answers.Given.{Given}
+use Rattle.pld_driver.specs.declared.answers.Flow.TheVariants as flow
 use Rattle.pld_driver.specs.declared.answers.Place.{Place}
 use Rattle.pld_driver.specs.declared.answers.Stop.{Stop}
 use Rattle.pld_driver.specs.declared.answers.Stop.TheVariants.{WriteFault, NoMemory}
 use Rattle.pld_driver.specs.declared.engine.Bench.{Bench}
-use Rattle.pld_driver.specs.Walk.{Answered, Step, Says, Runs, Walked, passed, said, ran, after, walk}
-use Rattle.pld_driver.specs.Moments.{Took, Held, Point, Goes, Answers, Cuts, Comes, Stops, StopsIn, IsGiven, given_of, IsReady}
+use Rattle.pld_driver.specs.Walk.{Answered, Step, Says, Runs, Walked, passed, stopped, said, ran, after, walk, is_quit, has_quit}
+use Rattle.pld_driver.specs.Moments.{Took, Held, Point, Goes, Answers, Cuts, Comes, Stops, Ends, IsGiven, given_of, IsReady}
 
 -- one session's statements, and then those of another
 abbrev pub join : {S R : Type 0} → Walked S R → Walked S R → Walked S R
@@ -44,6 +49,15 @@ none_join {S} {R} s records v =
     let T : ℕ → Walked S R = λ k. with_three v v.out v.refused k in
     ap T (sym (zero-add v.permits))
 
+-- the statement that comes is a `quit`, or it isn't
+abbrev pub pick : {S R : Type 0} → Bool → List R → Walked S R → Walked S R
+pick {S} {R} b records w = elim b as (λ _. Walked S R) [ true ↦ stopped true records | false ↦ w ]
+
+by_quit : {S R : Type 0} (b : Bool) (records records' : List R) (w w' v : Walked S R) (s : S) → (w.left ≡ [] → w.end ≡ Some s → w' ≡ join w v)
+    → (pick b records w).left ≡ [] → (pick b records w).end ≡ Some s → pick b records' w' ≡ join (pick b records w) v
+by_quit true records records' w w' v s h l e = cc
+by_quit false records records' w w' v s h l e = h l e
+
 by_step : {S R : Type 0} (x : Step S R) (s s' : S) (added more : List R) (v : Walked S R) (f f' : S → List R → Walked S R)
     → ((n : S) (r : List R) → (f n r).left ≡ [] → (f n r).end ≡ Some s' → f' n (r ++ more) ≡ join (f n r) v)
     → (after x s added f).left ≡ [] → (after x s added f).end ≡ Some s' → after x s (added ++ more) f' ≡ join (after x s added f) v
@@ -62,8 +76,10 @@ pub walk-append : {S R : Type 0} (step : S → Placed → Step S R) (s s' : S) (
 walk-append step s s' [] later added more l e =
     ap (λ r. walk step s later (r ++ more)) l ∙ ap (λ t. walk step t later more) (some_is s s' e) ∙ none_join s added (walk step s' later more)
 walk-append step s s' (placed ∷ done) later added more l e =
-    by_step (step s placed) s s' added more (walk step s' later more) (λ n r. walk step n done r) (λ n r. walk step n (done ++ later) r)
-    (λ n r p q. walk-append step n s' done later r more p q) l e
+    by_quit (is_quit placed.said) added (added ++ more) _ _ (walk step s' later more) s'
+    (by_step (step s placed) s s' added more (walk step s' later more) (λ n r. walk step n done r) (λ n r. walk step n (done ++ later) r)
+    (λ n r p q. walk-append step n s' done later r more p q))
+    l e
 
 -- Without records no run is begun.
 pub record Bare {S R : Type 0} (w : Walked S R) : Type 0 where
@@ -74,20 +90,34 @@ bare_step : {S R : Type 0} (x : Step S R) (s : S) (f : S → List R → Walked S
 bare_step (Says given) s f h = let b = h given.next in record { runs = b.runs; left = b.left }
 bare_step (Runs answer) s f h = record { runs = refl; left = refl }
 
+bare_quit : {S R : Type 0} (b : Bool) (w : Walked S R) → Bare w → Bare (pick b [] w)
+bare_quit true w h = record { runs = refl; left = refl }
+bare_quit false w h = h
+
 pub walk_bare : {S R : Type 0} (step : S → Placed → Step S R) (s : S) (later : List Placed) → Bare (walk step s later [])
 walk_bare step s [] = record { runs = refl; left = refl }
-walk_bare step s (placed ∷ later) = bare_step (step s placed) s (λ n r. walk step n later r) (λ n. walk_bare step n later)
+walk_bare step s (placed ∷ later) = bare_quit (is_quit placed.said) _ (bare_step (step s placed) s (λ n r. walk step n later r) (λ n. walk_bare step n later))
 
--- Where statements lead to a state, no run lacked its record.
-whole_step : {S R : Type 0} (x : Step S R) (s s' : S) (added : List R) (f : S → List R → Walked S R)
-    → ((n : S) (r : List R) → (f n r).end ≡ Some s' → (f n r).whole ≡ true) → (after x s added f).end ≡ Some s' → (after x s added f).whole ≡ true
-whole_step (Says given) s s' added f h e = h given.next added e
-whole_step (Runs answer) s s' [] f h e = cc
-whole_step (Runs answer) s s' (run ∷ added) f h e = h (answer run).next added e
+-- Where statements lead to a state, none of them is a `quit`.
+no_quit_step : {S R : Type 0} (x : Step S R) (s s' : S) (added : List R) (f : S → List R → Walked S R) (quits : Bool)
+    → ((n : S) (r : List R) → (f n r).end ≡ Some s' → quits ≡ false) → (after x s added f).end ≡ Some s' → quits ≡ false
+no_quit_step (Says given) s s' added f quits h e = h given.next added e
+no_quit_step (Runs answer) s s' [] f quits h e = cc
+no_quit_step (Runs answer) s s' (run ∷ added) f quits h e = h (answer run).next added e
 
-pub walk_whole : {S R : Type 0} (step : S → Placed → Step S R) (s s' : S) (done : List Placed) (added : List R) → (walk step s done added).end ≡ Some s' → (walk step s done added).whole ≡ true
-walk_whole step s s' [] added e = refl
-walk_whole step s s' (placed ∷ done) added e = whole_step (step s placed) s s' added (λ n r. walk step n done r) (λ n r q. walk_whole step n s' done r q) e
+no_quit_pick : {S R : Type 0} (b quits : Bool) (records : List R) (w : Walked S R) (s : S) → (w.end ≡ Some s → quits ≡ false) → (pick b records w).end ≡ Some s → (b || quits) ≡ false
+no_quit_pick true quits records w s h e = cc
+no_quit_pick false quits records w s h e = h e
+
+pub no_quit : {S R : Type 0} (step : S → Placed → Step S R) (s s' : S) (done : List Placed) (added : List R) → (walk step s done added).end ≡ Some s' → has_quit done ≡ false
+no_quit step s s' [] added e = refl
+no_quit step s s' (placed ∷ done) added e =
+    no_quit_pick (is_quit placed.said) (has_quit done) added _ s'
+    (no_quit_step (step s placed) s s' added (λ n r. walk step n done r) (has_quit done) (λ n r q. no_quit step n s' done r q)) e
+
+pub has_quit-append : (a b : List Placed) → has_quit (a ++ b) ≡ (has_quit a || has_quit b)
+has_quit-append [] b = refl
+has_quit-append (placed ∷ a) b = ap (λ x. is_quit placed.said || x) (has_quit-append a b) ∙ or_assoc (is_quit placed.said) (has_quit a) (has_quit b)
 
 -- ---- one statement
 
@@ -177,14 +207,21 @@ one_step (Runs answer) Fits state old new reply refused next (run, l, g) = recor
   flag = or_none (answer run).refused ∙ sym g.flag;
 }
 
+one_quit : {S R : Type 0} (b : Bool) (Fits : S → R → Type 0) (old new : List R) (spent_old spent_new : ℕ) (reply : List ℕ) (refused : Bool) (next : S) (f : List R → Walked S R) → b ≡ false
+    → IsOne Fits old new spent_old spent_new reply refused next f → IsOne Fits old new spent_old spent_new reply refused next (λ added. pick b added (f added))
+one_quit true Fits old new spent_old spent_new reply refused next f e h = cc
+one_quit false Fits old new spent_old spent_new reply refused next f e h = h
+
 pub Goes-one : {S R : Type 0} (step : S → Placed → Step S R) (Fits : S → R → Type 0) (ended : Bool) (text : List ℕ) (from to : Point S R) (told : Option Statement) (blank own used : ℕ) (flag : Bool)
-    → IsFirst ended (drop from.start text) told blank own used → from.start ≤ length text
+    → IsFirst ended (drop from.start text) told blank own used → from.start ≤ length text → is_quit told ≡ false
     → Answers step Fits (record { number = from.number + blank; said = told }) from.held to.held flag
     → to.number ≡ from.number + blank + own → to.start ≡ from.start + used → to.refused ≡ (from.refused || flag)
     → Goes step Fits ended text from to
-Goes-one {S} {R} step Fits ended text from to told blank own used flag first h a n s r =
+Goes-one {S} {R} step Fits ended text from to told blank own used flag first h quit a n s r =
     let placed : Placed = record { number = from.number + blank; said = told } in
-    let one = one_step (step from.held.state placed) Fits from.held.state from.held.bench to.held.bench a.reply flag to.held.state a.took in
+    let one = one_quit (is_quit told) Fits from.held.bench.records.items to.held.bench.records.items from.held.bench.permits to.held.bench.permits a.reply flag to.held.state
+    (λ added. after (step from.held.state placed) from.held.state added passed) quit
+    (one_step (step from.held.state placed) Fits from.held.state from.held.bench to.held.bench a.reply flag to.held.state a.took) in
     let P : List ℕ → Type 0 = λ l. Appends from.held.written to.held.written l in
     record {
       done = placed ∷ [];
@@ -213,11 +250,32 @@ comes_first ended text at told blank own used first e more m = (_, first.first a
 pub HoldsNone-nil : (ended : Bool) (text : List ℕ) (start : ℕ) → length text ≤ start → HoldsNone ended (drop start text)
 HoldsNone-nil ended text start h number = ap (statements_at ended number) (drop_all start text h)
 
-pub given_whole : (rest : List ℕ) (told : Next) → IsNext true rest told → IsGiven true rest (given_of told)
-given_whole rest (next.Statement found) h = h
-given_whole rest (next.BadLine skipped) h = h
-given_whole rest next.More h = cc
-given_whole rest next.End h = h.1
+-- the first statement of a front is that of the whole
+IsFirst-take : (rest : List ℕ) (end : ℕ) (told : Option Statement) (blank own used : ℕ) → IsFirst false (take end rest) told blank own used → IsFirst false rest told blank own used
+IsFirst-take rest end told blank own used f = record {
+  within = omega (arith, f.within, length-take {A = ℕ});
+  some = f.some;
+  counts = f.counts;
+  first = λ number e more m.
+      let front = take end rest in
+      let back = drop end rest in
+      let m' : MayFollow false e (back ++ more) = record { end = λ q. cc; none = λ q. cc } in
+      let whole : front ++ back ≡ rest = take-append-drop end rest in
+      let cut : drop used front ++ back ≡ drop used rest = sym (drop-append-le used front back f.within) ∙ ap (drop used) whole in
+      ap (λ l. statements_at e number (l ++ more)) (sym whole)
+      ∙ ap (statements_at e number) (append_assoc front back more)
+      ∙ f.first number e (back ++ more) m'
+      ∙ ap (λ l. record { number = number + blank; said = told } ∷ statements_at e (number + blank + own) l) (sym (append_assoc (drop used front) back more) ∙ ap (λ l. l ++ more) cut);
+}
+
+pub given_open : (told : Next) (rest : List ℕ) (end : ℕ) (scan : Scan) (given : Option Given) → IsNext false (take end rest) told → HoldsOne (take end rest) → given ≡ given_of told → IsGiven false rest scan given
+given_open told rest end scan given h one e = let P : Option Given → Type 0 = λ x. IsGiven false rest scan x in subst P (sym e) (by_next told h)
+  where
+    by_next : (n : Next) → IsNext false (take end rest) n → IsGiven false rest scan (given_of n)
+    by_next (next.Statement found) f = IsFirst-take rest end (Some found.statement) found.blank found.lines found.used f
+    by_next (next.BadLine skipped) f = IsFirst-take rest end None skipped.blank skipped.lines skipped.used f
+    by_next next.More f = absurd (one 0 (f.1 0))
+    by_next next.End f = cc
 
 -- ---- the loop over the statements of a text
 
@@ -231,41 +289,69 @@ first_rest ended bytes at told blank own used f = let P : List ℕ → Type 0 = 
 pub none_rest : (ended : Bool) (bytes : List ℕ) (at : ℕ) → HoldsNone ended (take (length bytes - at) (drop at bytes)) → HoldsNone ended (drop at bytes)
 none_rest ended bytes at h = let P : List ℕ → Type 0 = λ l. HoldsNone ended l in subst P (rest_is bytes at) h
 
-pub stops_in : {S R : Type 0} (step : S → Placed → Step S R) (Fits : S → R → Type 0) (ended : Bool) (text : List ℕ) (from at to : Point S R) (told : Option Statement) (blank own used : ℕ) (stop : Stop)
-    → Goes step Fits ended text from at → IsFirst ended (take (length text - at.start) (drop at.start text)) told blank own used
+quit_is : (told : Option Statement) → is_quit told ≡ true → told ≡ Some says.Quit
+quit_is None h = cc
+quit_is (Some (says.Op name kind text)) h = cc
+quit_is (Some (says.Input name to)) h = cc
+quit_is (Some (says.Output from name)) h = cc
+quit_is (Some (says.Feed name words)) h = cc
+quit_is (Some says.Build) h = cc
+quit_is (Some says.Run) h = cc
+quit_is (Some says.Quit) h = refl
+
+pub ends_quit : {S R : Type 0} (step : S → Placed → Step S R) (Fits : S → R → Type 0) (ended : Bool) (text : List ℕ) (from at : Point S R) (told : Option Statement) (blank own used : ℕ)
+    → Goes step Fits ended text from at → IsFirst ended (take (length text - at.start) (drop at.start text)) told blank own used → is_quit told ≡ true
+    → Ends step Fits ended text from at flow.Quits
+ends_quit step Fits ended text from at told blank own used goes first quit =
+    let P : Option Statement → Type 0 = λ x. Comes ended text at (record { number = at.number + blank; said = x }) in
+    record {
+      number = at.number + blank;
+      goes = goes;
+      comes = subst P (quit_is told quit) (comes_first ended text at told blank own used (first_rest ended text at.start told blank own used first));
+    }
+
+pub ends_stop : {S R : Type 0} (step : S → Placed → Step S R) (Fits : S → R → Type 0) (ended : Bool) (text : List ℕ) (from at to : Point S R) (told : Option Statement) (blank own used : ℕ) (stop : Stop)
+    → Goes step Fits ended text from at → IsFirst ended (take (length text - at.start) (drop at.start text)) told blank own used → is_quit told ≡ false
     → Stops step Fits (record { number = at.number + blank; said = told }) at.held to.held stop
-    → StopsIn step Fits ended text from to stop
-stops_in step Fits ended text from at to told blank own used WriteFault goes first s = record {
+    → Ends step Fits ended text from to (flow.Stopped stop)
+ends_stop step Fits ended text from at to told blank own used WriteFault goes first quit s = record {
   at = at;
   placed = record { number = at.number + blank; said = told };
   goes = goes;
   comes = comes_first ended text at told blank own used (first_rest ended text at.start told blank own used first);
+  no_quit = quit;
   holds = s;
 }
-stops_in step Fits ended text from at to told blank own used NoMemory goes first s = inr (record {
+ends_stop step Fits ended text from at to told blank own used NoMemory goes first quit s = inr (record {
   at = at;
   placed = record { number = at.number + blank; said = told };
   goes = goes;
   comes = comes_first ended text at told blank own used (first_rest ended text at.start told blank own used first);
+  no_quit = quit;
   holds = s;
 })
 
 pub goes_on : {S R : Type 0} (step : S → Placed → Step S R) (Fits : S → R → Type 0) (ended : Bool) (text : List ℕ) (from at to : Point S R) (told : Option Statement) (blank own used : ℕ) (flag : Bool)
-    → Goes step Fits ended text from at → IsFirst ended (take (length text - at.start) (drop at.start text)) told blank own used → at.start ≤ length text
+    → Goes step Fits ended text from at → IsFirst ended (take (length text - at.start) (drop at.start text)) told blank own used → at.start ≤ length text → is_quit told ≡ false
     → Answers step Fits (record { number = at.number + blank; said = told }) at.held to.held flag
     → to.number ≡ at.number + blank + own → to.start ≡ at.start + used → to.refused ≡ (at.refused || flag)
     → Goes step Fits ended text from to
-goes_on step Fits ended text from at to told blank own used flag goes first h a n s r =
+goes_on step Fits ended text from at to told blank own used flag goes first h quit a n s r =
     Goes-trans step Fits ended text from at to goes
-    (Goes-one step Fits ended text at to told blank own used flag (first_rest ended text at.start told blank own used first) h a n s r)
+    (Goes-one step Fits ended text at to told blank own used flag (first_rest ended text at.start told blank own used first) h quit a n s r)
 
-pub ready_on : (ended : Bool) (text : List ℕ) (place : Place) (told : Option Statement) (blank own used : ℕ) (flag : Bool) (old new : ℕ) → IsReady text place old
+pub ready_on : (ended : Bool) (text : List ℕ) (place : Place) (told : Option Statement) (blank own used : ℕ) (flag : Bool) (scan : Scan) (old new : ℕ) → IsReady text place old
     → IsFirst ended (take (length text - place.start) (drop place.start text)) told blank own used → new ≤ old + 64
-    → IsReady text (record { start = place.start + used; number = place.number + blank + own; refused = flag }) new
-ready_on ended text place told blank own used flag old new r first few =
+    → scan.line ≡ 0 → scan.seen ≡ 0 → scan.in_text ≡ false
+    → IsReady text (record { start = place.start + used; number = place.number + blank + own; refused = flag; scan = scan }) new
+ready_on ended text place told blank own used flag scan old new r first few a b c =
     let f = first_rest ended text place.start told blank own used first in
+    let P : ℕ → Type 0 = λ x. Scanned (drop (place.start + used) text) x scan.seen scan.in_text in
+    let Q : ℕ → Type 0 = λ x. Scanned (drop (place.start + used) text) 0 x scan.in_text in
+    let T : Bool → Type 0 = λ x. Scanned (drop (place.start + used) text) 0 0 x in
     record {
       within = omega (arith, r.within, f.within, length-drop {A = ℕ});
       lines = omega (arith, r.lines, f.counts);
       few = omega (arith, r.few, f.some, few);
+      scanned = subst P (sym a) (subst Q (sym b) (subst T (sym c) (Scanned-new (drop (place.start + used) text))));
     }

@@ -1,15 +1,21 @@
 -- How far a session has come.
-use Rattle.std.specs.Prelude.{◌≡◌, ◌⊎◌, ◌+◌, ◌*◌, ◌<◌, ◌≤◌, ℕ, Bool, ◌||◌, List, [], ◌∷◌, ◌++◌, length, drop, All, Option, Some, None}
+use Rattle.std.specs.Prelude.{◌≡◌, ◌⊎◌, ◌+◌, ◌*◌, ◌<◌, ◌≤◌, ℕ, Bool, true, false, ◌||◌, List, [], ◌∷◌, ◌++◌, length, drop, All, Option, Some, None}
 use Rattle.std.specs.Io.KnownBytes.{Appends, Keeps}
+use Rattle.pld_script.specs.declared.statement.Statement.TheVariants.{Quit}
+use Rattle.pld_script.specs.declared.scan.Scan.{Scan}
 use Rattle.pld_script.specs.declared.next.Next.{Next}
 use Rattle.pld_script.specs.declared.next.Next.TheVariants as next
-use Rattle.pld_script.specs.Statements.{Placed, statements_at, MayFollow, HoldsNone, IsFirst}
+use Rattle.pld_script.specs.Statements.{Placed, statements_at, MayFollow, HoldsNone, IsFirst, Scanned}
 use Rattle.pld_driver.specs.declared.engine.Bench.{Bench}
 use Rattle.pld_driver.specs.declared.answers.Stop.{Stop}
 use Rattle.pld_driver.specs.declared.answers.Stop.TheVariants.{WriteFault, NoMemory}
+use Rattle.pld_driver.specs.declared.answers.Flow.{Flow}
+use Rattle.pld_driver.specs.declared.answers.Flow.TheVariants as flow
+use Rattle.pld_driver.specs.declared.status.Status.{Status}
+use Rattle.pld_driver.specs.declared.status.Status.TheVariants as status
 use Rattle.pld_driver.specs.declared.answers.Place.{Place}
 use Rattle.pld_driver.specs.declared.answers.Given.{Given}
-use Rattle.pld_driver.specs.Walk.{Answered, Step, Says, Runs, walk}
+use Rattle.pld_driver.specs.Walk.{Answered, Step, Says, Runs, walk, is_quit}
 
 -- This answer was given, and its permits were spent.
 pub record Gives {S : Type 0} (told : Answered S) (spent_old spent_new : ℕ) (reply : List ℕ) (refused : Bool) (next : S) : Type 0 where
@@ -105,18 +111,45 @@ pub record AnswersAll {S R : Type 0} (step : S → Placed → Step S R) (Fits : 
   pub goes : Goes step Fits ended text from to
   pub none : HoldsNone ended (drop to.start text)
 
--- The statements before one were answered, and this holds of that one.
+-- The statements before a `quit` were answered.
+pub record QuitsAt {S R : Type 0} (step : S → Placed → Step S R) (Fits : S → R → Type 0) (ended : Bool) (text : List ℕ) (from to : Point S R) : Type 0 where
+  pub number : ℕ
+  pub goes : Goes step Fits ended text from to
+  pub comes : Comes ended text to (record { number = number; said = Some Quit })
+
+-- The statements before one that is no `quit` were answered, and this holds of that one.
 pub record Reaches {S R : Type 0} (step : S → Placed → Step S R) (Fits : S → R → Type 0) (ended : Bool) (text : List ℕ) (from : Point S R) (Of : Placed → Held S R → Type 0) : Type 0 where
   pub at : Point S R
   pub placed : Placed
   pub goes : Goes step Fits ended text from at
   pub comes : Comes ended text at placed
+  pub no_quit : is_quit placed.said ≡ false
   pub holds : Of placed at.held
 
--- why the answers to the statements of a text stop
-abbrev pub StopsIn : {S R : Type 0} → (S → Placed → Step S R) → (S → R → Type 0) → Bool → List ℕ → Point S R → Point S R → Stop → Type 0
-StopsIn step Fits ended text from to WriteFault = Reaches step Fits ended text from (λ placed held. Cuts step Fits placed held to.held)
-StopsIn step Fits ended text from to NoMemory = Goes step Fits ended text from to ⊎ Reaches step Fits ended text from (λ placed held. Breaks step Fits placed held to.held)
+-- how far the answers to the statements of a text have come
+abbrev pub Ends : {S R : Type 0} → (S → Placed → Step S R) → (S → R → Type 0) → Bool → List ℕ → Point S R → Point S R → Flow → Type 0
+Ends step Fits ended text from to flow.Open = AnswersAll step Fits ended text from to
+Ends step Fits ended text from to flow.Quits = QuitsAt step Fits ended text from to
+Ends step Fits ended text from to (flow.Stopped WriteFault) = Reaches step Fits ended text from (λ placed held. Cuts step Fits placed held to.held)
+Ends step Fits ended text from to (flow.Stopped NoMemory) = Goes step Fits ended text from to ⊎ Reaches step Fits ended text from (λ placed held. Breaks step Fits placed held to.held)
+
+-- whether the answers may go on
+abbrev pub is_open : Flow → Bool
+is_open flow.Open = true
+is_open flow.Quits = false
+is_open (flow.Stopped reason) = false
+
+-- the status of a session whose answers were all given
+abbrev pub done_status : Bool → Status
+done_status true = status.SomeRefused
+done_status false = status.Fine
+
+-- the status of a session that ends there
+abbrev pub status_of : Flow → Bool → Status
+status_of flow.Open refused = done_status refused
+status_of flow.Quits refused = done_status refused
+status_of (flow.Stopped WriteFault) refused = status.WriteFault
+status_of (flow.Stopped NoMemory) refused = status.NoMemory
 
 -- what a session holds
 abbrev pub held_of : {S R : Type 0} → S → Bench R → Option (List ℕ) → Held S R
@@ -131,16 +164,18 @@ point_of state bench written place = record {
   refused = place.refused;
 }
 
--- A session stands in these bytes: each statement used a byte at least, and spent 64 permits at most.
+-- A session stands in these bytes: each statement used a byte at least, and spent 64 permits at most; and so far were the bytes
+-- behind them looked at.
 pub record IsReady (bytes : List ℕ) (place : Place) (permits : ℕ) : Type 0 where
   pub within : place.start ≤ length bytes
   pub lines : place.number ≤ place.start + 1
   pub few : permits ≤ 64 * place.start
+  pub scanned : Scanned (drop place.start bytes) place.scan.line place.scan.seen place.scan.in_text
 
--- the first statement of these bytes, or none
-abbrev pub IsGiven : Bool → List ℕ → Option Given → Type 0
-IsGiven ended bytes None = HoldsNone ended bytes
-IsGiven ended bytes (Some given) = IsFirst ended bytes given.said given.blank given.lines given.used
+-- the first statement of these bytes, or none, and how far they were looked at
+abbrev pub IsGiven : Bool → List ℕ → Scan → Option Given → Type 0
+IsGiven ended bytes scan None = HoldsNone ended bytes × Scanned bytes scan.line scan.seen scan.in_text
+IsGiven ended bytes scan (Some given) = IsFirst ended bytes given.said given.blank given.lines given.used
 
 -- what is told of a next statement
 abbrev pub given_of : Next → Option Given

@@ -1,10 +1,8 @@
--- How a text is read.
+-- How a text is taken, piece by piece.
 use Rattle.std.specs.Prelude.{◌≡◌, ◌+◌, ◌<◌, ◌≤◌, ℕ, List, [], ◌++◌, length, Option}
 use Rattle.std.specs.Io.KnownBytes.{Consumes, IsAtEnd}
 use Rattle.pld_driver.specs.declared.session.Piece.{Piece}
 use Rattle.pld_driver.specs.declared.session.Piece.TheVariants as piece
-use Rattle.pld_driver.specs.declared.session.Reading.{Reading}
-use Rattle.pld_driver.specs.declared.session.Reading.TheVariants as reading
 
 -- how many bytes a session's text may have
 unfoldable pub limit : ℕ
@@ -17,10 +15,3 @@ Takes left_old left_new most old new piece.Some =
 Takes left_old left_new most old new piece.End = (new ≡ old) × Consumes left_old left_new [] × IsAtEnd left_new
 Takes left_old left_new most old new piece.Fault = (new ≡ old) × Consumes left_old left_new []
 Takes left_old left_new most old new piece.NoMemory = (new ≡ old) × Consumes left_old left_new []
-
--- how a whole text is taken
-abbrev pub Reads : Option (List ℕ) → Option (List ℕ) → List ℕ → Reading → Type 0
-Reads left_old left_new taken reading.Whole = Consumes left_old left_new taken × (length taken ≤ limit) × IsAtEnd left_new
-Reads left_old left_new taken reading.Fault = Consumes left_old left_new taken × (length taken ≤ limit)
-Reads left_old left_new taken reading.NoMemory = Consumes left_old left_new taken
-Reads left_old left_new taken reading.TooLong = Consumes left_old left_new taken × (limit < length taken)

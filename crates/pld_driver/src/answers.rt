@@ -1,14 +1,19 @@
 //! The answers to the statements of a text.
-ghost use Rattle.std.specs.Prelude.{◌≡◌, ◌||◌, ◌+◌, ◌≤◌, ◌<◌, ◌^◌, ◌++◌, ℕ, List, [], length, OnOk, OnErr, IfOk, IfErr, true};
+ghost use Rattle.std.specs.Prelude.{◌≡◌, ◌||◌, ◌+◌, ◌≤◌, ◌<◌, ◌^◌, ◌++◌, ℕ, List, [], length, OnOk, OnErr, IfOk, IfErr, true, false};
 ghost use Rattle.std.specs.Io.KnownBytes.{Appends};
 ghost use Rattle.pld_io.specs.Outside.{Rose};
-ghost use Rattle.pld_driver.specs.Moments.{Answers, Stops, AnswersAll, StopsIn, IsReady, IsGiven, given_of, held_of, point_of};
+ghost use Rattle.pld_script.specs.Statements.{Scanned};
+ghost use Rattle.pld_driver.specs.Walk.{is_quit};
+ghost use Rattle.pld_driver.specs.Moments.{Answers, Stops, Ends, IsReady, IsGiven, given_of, held_of, point_of, is_open as is_open_of, done_status as done_status_of, status_of as status_after};
 
-use super::{Bench, Engine};
+use super::{Bench, Engine, Status};
 use pld_base::NoMemory;
 use pld_io::{Failed, Sink};
-use pld_script::{Next, Statement, next_statement};
+use pld_script::{Next, Scan, Statement, next_statement};
 use std::alloc::Global;
+
+/// How many bytes most replies have at most.
+const REPLY: usize = 64;
 
 /// Why answers stop.
 #[derive(Clone, Copy, PartialEq, Eq)]
@@ -17,6 +22,53 @@ pub enum Stop {
     WriteFault,
     /// No memory was left.
     NoMemory,
+}
+
+/// How far the answers to the statements of a text have come.
+#[derive(Clone, Copy, PartialEq, Eq)]
+pub enum Flow {
+    /// No whole statement is left.
+    Open,
+    /// A `quit` comes next.
+    Quits,
+    /// They have stopped at a statement.
+    Stopped(Stop),
+}
+
+impl Flow {
+    /// Whether answers may go on once more bytes have come.
+    pub fn is_open(self) -> bool
+        ensures { result ≡ is_open_of self }
+    {
+        match self {
+            Flow::Open => true,
+            Flow::Quits => false,
+            Flow::Stopped(_) => false,
+        }
+    }
+
+    /// The status of a session that ends here. `refused` says whether a statement was refused.
+    pub fn status(self, refused: bool) -> Status
+        ensures { result ≡ status_after self refused }
+    {
+        match self {
+            Flow::Open => done_status(refused),
+            Flow::Quits => done_status(refused),
+            Flow::Stopped(Stop::WriteFault) => Status::WriteFault,
+            Flow::Stopped(Stop::NoMemory) => Status::NoMemory,
+        }
+    }
+}
+
+/// The status of a session whose statements were all answered.
+fn done_status(refused: bool) -> Status
+    ensures { result ≡ done_status_of refused }
+{
+    if refused {
+        Status::SomeRefused
+    } else {
+        Status::Fine
+    }
 }
 
 /// Puts the whole piece, in as many puts as the sink needs.
@@ -74,7 +126,7 @@ fn line_len(text: &[u8]) -> usize
 }
 
 /// Where in its text a session stands.
-#[derive(Clone, Copy, PartialEq, Eq)]
+#[derive(Drop)]
 pub struct Place {
     /// How many bytes were used.
     pub start: usize,
@@ -82,6 +134,8 @@ pub struct Place {
     pub number: u64,
     /// Whether a statement was refused.
     pub refused: bool,
+    /// How far the bytes behind those were looked at.
+    pub scan: Scan,
 }
 
 /// Answers a statement, and puts the reply.
@@ -102,7 +156,10 @@ fn answer_one<K: Sink, E: Engine>(
     ensures later { K.faults sink.old ≤ K.faults sink.new }
     ensures fault { result ≡ Err Stop.WriteFault → Rose (K.faults sink.old) (K.faults sink.new) }
 {
-    let mut reply = Vec::new(alloc);
+    let mut reply = match Vec::with_capacity(alloc, REPLY) {
+        Ok(reply) => reply,
+        Err(_) => return Err(Stop::NoMemory),
+    };
     let refused = match engine.answer(alloc, number, said, bench, &mut reply) {
         Ok(refused) => refused,
         Err(_) => return Err(Stop::NoMemory),
@@ -149,12 +206,46 @@ fn given_by(next: Next) -> Option<Given>
     }
 }
 
-/// The first statement of the bytes that are left of a whole text.
-fn next_given(alloc: Global, rest: &[u8]) -> Result<Option<Given>, NoMemory>
-    ensures { IfOk result (IsGiven true rest.now) }
+/// The first statement of bytes that others may follow.
+fn next_open(alloc: Global, scan: &mut Scan, rest: &[u8]) -> Result<Option<Given>, NoMemory>
+    requires { Scanned rest.now scan.old.line scan.old.seen scan.old.in_text }
+    ensures { IfOk result (IsGiven false rest.now scan.new) }
 {
+    match scan.find(rest) {
+        None => Ok(None),
+        Some(end) => {
+            let next = next_statement(alloc, &rest[..end], false)?;
+            Ok(given_by(next))
+        }
+    }
+}
+
+/// The first statement of the bytes that are left.
+fn next_given(
+    alloc: Global,
+    scan: &mut Scan,
+    rest: &[u8],
+    ended: bool,
+) -> Result<Option<Given>, NoMemory>
+    requires { Scanned rest.now scan.old.line scan.old.seen scan.old.in_text }
+    ensures { IfOk result (IsGiven ended rest.now scan.new) }
+{
+    if !ended {
+        return next_open(alloc, scan, rest);
+    }
     let next = next_statement(alloc, rest, true)?;
     Ok(given_by(next))
+}
+
+/// Whether this is a `quit`.
+fn quits(said: &Option<Statement>) -> bool
+    ensures { result ≡ is_quit said.now }
+{
+    match said {
+        Some(Statement::Quit) => true,
+        Some(_) => false,
+        None => false,
+    }
 }
 
 /// Whether one of the two holds.
@@ -164,39 +255,43 @@ fn either(a: bool, b: bool) -> bool
     a || b
 }
 
-/// Answers the statements of a whole text from this place on.
+/// Answers the statements of these bytes from this place on, up to a `quit`. `ended` says that nothing follows the bytes.
 pub fn answer_whole<K: Sink, E: Engine>(
     alloc: Global,
     bytes: &[u8],
+    ended: bool,
     place: &mut Place,
     engine: &mut E,
     bench: &mut Bench<E::Record>,
     sink: &mut K,
-) -> Result<(), Stop>
+) -> Flow
     requires ready { IsReady bytes.now place.old bench.old.permits }
     requires short { length bytes.now < 2 ^ 40 }
-    ensures ok { OnOk result (AnswersAll E.step E.fits true bytes.now (point_of engine.old bench.old (K.written sink.old) place.old)
-        (point_of engine.new bench.new (K.written sink.new) place.new)) }
-    ensures err { IfErr result (StopsIn E.step E.fits true bytes.now (point_of engine.old bench.old (K.written sink.old) place.old)
-        (point_of engine.new bench.new (K.written sink.new) place.new)) }
+    ensures ends { Ends E.step E.fits ended bytes.now (point_of engine.old bench.old (K.written sink.old) place.old)
+        (point_of engine.new bench.new (K.written sink.new) place.new) result }
+    ensures ready { result ≡ Flow.Open → IsReady bytes.now place.new bench.new.permits }
     ensures later { K.faults sink.old ≤ K.faults sink.new }
-    ensures fault { result ≡ Err Stop.WriteFault → Rose (K.faults sink.old) (K.faults sink.new) }
+    ensures fault { result ≡ Flow.Stopped Stop.WriteFault → Rose (K.faults sink.old) (K.faults sink.new) }
 {
     'statements: while place.start < bytes.len() {
-        let given = match next_given(alloc, &bytes[place.start..]) {
+        let given = match next_given(alloc, &mut place.scan, &bytes[place.start..], ended) {
             Ok(Some(given)) => given,
-            Ok(None) => return Ok(()),
-            Err(_) => return Err(Stop::NoMemory),
+            Ok(None) => return Flow::Open,
+            Err(_) => return Flow::Stopped(Stop::NoMemory),
         };
         let number = place.number + given.blank;
+        if quits(&given.said) {
+            return Flow::Quits;
+        }
         match answer_one(alloc, number, given.said, engine, bench, sink) {
             Ok(refused) => {
                 place.start += given.used;
                 place.number = number + given.lines;
                 place.refused = either(place.refused, refused);
+                place.scan = Scan::new();
             }
-            Err(stop) => return Err(stop),
+            Err(stop) => return Flow::Stopped(stop),
         }
     }
-    Ok(())
+    Flow::Open
 }

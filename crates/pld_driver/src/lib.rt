@@ -1,4 +1,5 @@
-//! A session over any engine: its text is read to the end, and then each statement is answered.
+//! A session over any engine: its text is taken in pieces, and each statement is answered as soon as
+//! its last line was taken.
 #![tactic(auto)]
 
 mod answers;

@@ -1,12 +1,13 @@
 //! A session from its first byte to its end.
-ghost use Rattle.std.specs.Prelude.{◌≡◌, ◌⊎◌, ◌+◌, ◌≤◌, ◌<◌, ◌^◌, [], length, vec_len, true, false, IsSome};
+ghost use Rattle.std.specs.Prelude.{◌≡◌, ◌⊎◌, ◌+◌, ◌≤◌, ◌<◌, ◌^◌, [], length, take, vec_len, true, false, IsSome};
 ghost use Rattle.pld_io.specs.Outside.{Rose};
 ghost use Rattle.pld_driver.specs.Outcome.{Outcome, IsExact, IsTooLong};
-ghost use Rattle.pld_driver.specs.Reading.{Takes, Reads, limit};
+ghost use Rattle.pld_driver.specs.Reading.{Takes, limit};
 
-use super::answers::{Place, Stop, answer_whole};
+use super::answers::{Place, answer_whole};
 use super::{Bench, Engine, Status};
 use pld_io::{Sink, Source};
+use pld_script::Scan;
 use std::alloc::Global;
 
 /// How many bytes a piece has at most.
@@ -23,19 +24,6 @@ pub enum Piece {
     Fault,
     /// No memory was left for the bytes.
     NoMemory,
-}
-
-/// How the reading of a text ended.
-#[derive(Clone, Copy, PartialEq, Eq)]
-pub enum Reading {
-    /// It is all there.
-    Whole,
-    /// The source failed.
-    Fault,
-    /// No memory was left for it.
-    NoMemory,
-    /// It is longer than a session's text may be.
-    TooLong,
 }
 
 /// How many bytes a session's text may have.
@@ -69,42 +57,23 @@ fn take_piece<S: Source>(source: &mut S, text: &mut Vec<u8>, most: usize) -> Pie
     }
 }
 
-/// Reads a text to its end, and of one that is too long one byte more than a text may have.
-fn read_text<S: Source>(source: &mut S, text: &mut Vec<u8>) -> Reading
-    requires { text.old.items ≡ [] }
-    ensures reads { Reads (S.left source.old) (S.left source.new) text.new.items result }
-    ensures later { S.faults source.old ≤ S.faults source.new }
-    ensures fault { result ≡ Reading.Fault → Rose (S.faults source.old) (S.faults source.new) }
+/// The text up to the most bytes that it may have.
+fn front(text: &[u8], most: usize) -> &[u8]
+    ensures { result.now ≡ take most text.now }
 {
-    let most = most();
-    'pieces: while text.len() <= most {
-        match take_piece(source, text, most) {
-            Piece::Some => {}
-            Piece::End => return Reading::Whole,
-            Piece::Fault => return Reading::Fault,
-            Piece::NoMemory => return Reading::NoMemory,
-        }
-    }
-    Reading::TooLong
-}
-
-/// The status of a session whose statements were all answered.
-fn status_of(refused: bool) -> Status
-    ensures some_refused { refused ≡ true → result ≡ Status.SomeRefused }
-    ensures fine { refused ≡ false → result ≡ Status.Fine }
-{
-    if refused {
-        Status::SomeRefused
+    if text.len() <= most {
+        text
     } else {
-        Status::Fine
+        &text[..most]
     }
 }
 
-/// Runs a session: reads its text to the end, at most 16,777,216 bytes, and then answers its statements in order. Each line of
-/// a reply is put by itself.
+/// Runs a session: takes its text in pieces of at most 4,096 bytes, and answers each statement as soon as its last line was
+/// taken, up to `quit` or the end. Each line of a reply is put by itself.
 ///
-/// `Fine` and `SomeRefused` come where each reply was written, `ReadFault` where the source failed, `TooLong` where the text has
-/// more bytes, `WriteFault` where the sink failed, `NoMemory` where memory was wanting, and `Usage` never.
+/// `Fine` and `SomeRefused` come where the text was read to its end or to `quit`, and each reply was written; `ReadFault` where
+/// the source failed, and `TooLong` where the text has more than 16,777,216 bytes without a `quit`, and each reply to the whole
+/// statements before was written; `WriteFault` where the sink failed, `NoMemory` where memory was wanting, and `Usage` never.
 pub fn run<S: Source, K: Sink, E: Engine>(
     alloc: Global,
     source: &mut S,
@@ -124,27 +93,37 @@ pub fn run<S: Source, K: Sink, E: Engine>(
         bench.new.permits bench.new.records.items result) → IsSome (K.written sink.old) → (Rose (S.faults source.old) (S.faults source.new) → ⊥) →
         IsExact E.step engine.old (S.left source.new) (K.written sink.old) (K.written sink.new) o.taken bench.new.permits bench.new.records.items result }
     ensures too_long { (o : Outcome E.step E.fits engine.old (S.left source.old) (S.left source.new) (K.written sink.old) (K.written sink.new)
-        bench.new.permits bench.new.records.items result) → IsTooLong o.taken result }
+        bench.new.permits bench.new.records.items result) → IsSome (K.written sink.old) →
+        IsTooLong E.step engine.old (K.written sink.old) (K.written sink.new) o.taken bench.new.permits bench.new.records.items result }
 
     // A fault is told only where there was one.
     ensures read_fault { result ≡ Status.ReadFault → Rose (S.faults source.old) (S.faults source.new) }
     ensures write_fault { result ≡ Status.WriteFault → Rose (K.faults sink.old) (K.faults sink.new) }
 {
+    let most = most();
     let mut text = Vec::new(alloc);
-    match read_text(source, &mut text) {
-        Reading::Whole => {}
-        Reading::Fault => return Status::ReadFault,
-        Reading::NoMemory => return Status::NoMemory,
-        Reading::TooLong => return Status::TooLong,
-    }
     let mut place = Place {
         start: 0,
         number: 1,
         refused: false,
+        scan: Scan::new(),
     };
-    match answer_whole(alloc, text.as_slice(), &mut place, engine, bench, sink) {
-        Ok(()) => status_of(place.refused),
-        Err(Stop::WriteFault) => Status::WriteFault,
-        Err(Stop::NoMemory) => Status::NoMemory,
+    'pieces: while text.len() <= most {
+        match take_piece(source, &mut text, most) {
+            Piece::Some => {}
+            Piece::End => {
+                let bytes = text.as_slice();
+                let last = answer_whole(alloc, bytes, true, &mut place, engine, bench, sink);
+                return last.status(place.refused);
+            }
+            Piece::Fault => return Status::ReadFault,
+            Piece::NoMemory => return Status::NoMemory,
+        }
+        let bytes = front(text.as_slice(), most);
+        let flow = answer_whole(alloc, bytes, false, &mut place, engine, bench, sink);
+        if !flow.is_open() {
+            return flow.status(place.refused);
+        }
     }
+    Status::TooLong
 }

@@ -5,19 +5,19 @@ ghost use Rattle.pld_driver.specs.Statuses.{number_of};
 /// How a session ends.
 #[derive(Clone, Copy, Debug, PartialEq, Eq)]
 pub enum Status {
-    /// Each statement was answered, and none was refused.
+    /// Each statement was answered, up to the end or to `quit`, and none was refused.
     Fine,
-    /// Each statement was answered, and at least one was refused.
+    /// The same, and at least one statement was refused.
     SomeRefused,
     /// The words of a command were none that it knows. No session ends so.
     Usage,
-    /// The source failed, and nothing was answered.
+    /// The source failed, and each whole statement before was answered.
     ReadFault,
     /// The sink failed, and a part of the replies was written that isn't all of them.
     WriteFault,
     /// No memory was left, and a part of the replies was written.
     NoMemory,
-    /// The text is longer than a session's text may be, and nothing was answered.
+    /// The text is longer than a session's text may be, and each whole statement within was answered.
     TooLong,
 }
 

@@ -1,5 +1,5 @@
 //! Where the bytes of a session come from and go to: sources and sinks in memory, and over std's
-//! readers and writers.
+//! readers and writers. And the gate that a worker passes before it turns a page.
 #![tactic(auto)]
 
 mod adapters;
@@ -8,4 +8,4 @@ mod outside;
 
 pub use adapters::{ReadSource, WriteSink};
 pub use memory::{MemSink, MemSource};
-pub use outside::{Failed, Sink, Source};
+pub use outside::{Failed, Gate, OpenGate, Sink, Source};

@@ -30,6 +30,7 @@ impl MemSource {
         requires { 1 ≤ piece }
         ensures left { drop result.at result.bytes.items ≡ bytes.items }
         ensures fails { result.fails.items ≡ fails.items }
+        ensures piece { result.piece ≡ piece }
         ensures calls { result.calls ≡ 0 }
         ensures faults { result.faults ≡ 0 }
     {
@@ -56,7 +57,7 @@ impl Source for MemSource {
         ensures cause { HasCause self.old.faults self.new.faults result }
         ensures listed { IsErr result ↔ Contains self.old.fails.items self.new.calls }
         ensures calls { self.new.calls ≡ min (self.old.calls + 1) (2 ^ 64 - 1) }
-        ensures fails { self.new.fails.items ≡ self.old.fails.items }
+        ensures kept { (self.new.fails.items ≡ self.old.fails.items) × (self.new.piece ≡ self.old.piece) }
         ensures count { IfOk result (λ n. n ≡ min self.old.piece (min (length buf.new) (vec_len self.old.bytes - self.old.at))) }
         ensures faults { OnOk result (self.new.faults ≡ self.old.faults) }
     {

@@ -39,3 +39,17 @@ pub trait Sink {
         ensures bytes { WriteAppends (written self.old) (written self.new) result piece.now }
         ensures cause { HasPutCause (faults self.old) (faults self.new) result piece.now };
 }
+
+/// Where a worker waits before it turns a page. It promises only to return.
+pub trait Gate {
+    /// Lets a worker turn the page with this number, which is that of its leaf.
+    fn pass(&self, page: u8);
+}
+
+/// A gate that returns at once.
+#[derive(Clone, Copy, Debug, PartialEq, Eq)]
+pub struct OpenGate;
+
+impl Gate for OpenGate {
+    fn pass(&self, page: u8) {}
+}

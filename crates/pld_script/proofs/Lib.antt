@@ -1,4 +1,5 @@
 pub mod Lining
 pub mod Reading
+pub mod Scanning
 pub mod Wording
 pub mod Counting

@@ -13,12 +13,16 @@ use Rattle.pld_script.specs.Numbers.{word_in}
 use Rattle.pld_script.specs.declared.line.LineKind.{LineKind}
 use Rattle.pld_script.specs.declared.line.LineKind.TheVariants.{Skipped, Opens, Single}
 use Rattle.pld_script.specs.declared.statement.Statement.{Statement}
-use Rattle.pld_script.specs.declared.statement.Statement.TheVariants.{Op, Input, Output, Feed, Build, Run}
+use Rattle.pld_script.specs.declared.statement.Statement.TheVariants.{Op, Input, Output, Feed, Build, Run, Quit}
 
 -- a comment's first word, which begins with `#`
 abbrev pub starts_comment : List ℕ → Bool
 starts_comment [] = false
 starts_comment (b ∷ word) = b == 35
+
+-- whether a line whose first word is this one opens a text
+abbrev pub opens_text : List ℕ → Bool
+opens_text first = bytes_eq first (codes "op") || bytes_eq first (codes "replace")
 
 -- What a line with these words is, where no text is open: a line without words and a comment are skipped,
 -- and one that begins with `op` or `replace` opens a text.
@@ -26,7 +30,7 @@ abbrev pub kind_of_words : List (List ℕ) → LineKind
 kind_of_words [] = Skipped
 kind_of_words (first ∷ words) =
     if starts_comment first then Skipped
-    else if bytes_eq first (codes "op") || bytes_eq first (codes "replace") then Opens
+    else if opens_text first then Opens
     else Single
 
 -- what a line is, where no text is open
@@ -128,6 +132,7 @@ statement_in (first ∷ words) =
     else if bytes_eq first (codes "feed") then feed_in words
     else if bytes_eq first (codes "build") then alone Build words
     else if bytes_eq first (codes "run") then alone Run words
+    else if bytes_eq first (codes "quit") then alone Quit words
     else None
 
 -- the statement of a line that opens no text, None for a bad line

@@ -1,7 +1,8 @@
 -- The statements of a text.
-use Rattle.std.specs.Prelude.{ℕ, ◌+◌, ◌≤◌, ◌≡◌, Bool, true, false, if◌then◌else◌, List, [], ◌∷◌, ◌++◌, length, drop, flat_map, Option, Some, None}
+use Rattle.std.specs.Prelude.{ℕ, ◌+◌, ◌<◌, ◌≤◌, ◌≡◌, ◌≢◌, Bool, true, false, if◌then◌else◌, List, [], ◌∷◌, ◌++◌, length, take, drop, flat_map, slice_index, Option, Some, None}
 use Rattle.pld_script.specs.Lines.{lines}
 use Rattle.pld_script.specs.Grammar.{kind_of, closes_text, line_statement, text_statement}
+use Rattle.pld_script.specs.declared.line.LineKind.{LineKind}
 use Rattle.pld_script.specs.declared.line.LineKind.TheVariants.{Skipped, Opens, Single}
 use Rattle.pld_script.specs.declared.statement.Statement.{Statement}
 use Rattle.pld_script.specs.declared.next.Next.{Next}
@@ -68,6 +69,38 @@ pub record IsLine (ended : Bool) (bytes line : List ℕ) (used : ℕ) : Type 0 w
   pub within : used ≤ length bytes
   pub some : 1 ≤ used
   pub first : (e : Bool) (more : List ℕ) → MayFollow ended e more → lines e (bytes ++ more) ≡ line ∷ lines e (drop used bytes ++ more)
+
+-- a whole statement stands in these bytes
+abbrev pub HoldsOne : List ℕ → Type 0
+HoldsOne bytes = (number : ℕ) → statements_at false number bytes ≢ []
+
+-- A statement's text is open exactly where lines of it have begun.
+abbrev pub IsOpen : Bool → List (List ℕ) → Type 0
+IsOpen in_text [] = in_text ≡ false
+IsOpen in_text (head ∷ text) = in_text ≡ true
+
+-- How far a scan has come in these bytes: up to `line` stand whole lines that hold no whole statement, and from there up to `seen` no
+-- line end. `begun` are the lines of the statement that has begun, and `skipped` is how many skipped lines stand before it.
+pub record Scanned (bytes : List ℕ) (line seen : ℕ) (in_text : Bool) : Type 0 where
+  pub in_order : line ≤ seen
+  pub within : seen ≤ length bytes
+  pub clean : (k : ℕ) → line ≤ k → k < seen → slice_index bytes k ≢ 10
+  pub begun : List (List ℕ)
+  pub skipped : ℕ
+  pub is_open : IsOpen in_text begun
+  pub same : (number : ℕ) (e : Bool) (more : List ℕ) →
+      statements_at e number (take line bytes ++ more) ≡ statements_from e (number + skipped) begun (lines e more)
+
+-- whether a line of this kind opens a text; None where it is a statement
+abbrev pub after_kind : LineKind → Option Bool
+after_kind Skipped = Some false
+after_kind Opens = Some true
+after_kind Single = None
+
+-- whether a text is open behind this line; None where the line ends a statement
+abbrev pub after_line : Bool → List ℕ → Option Bool
+after_line true line = if closes_text line then None else Some true
+after_line false line = after_kind (kind_of line)
 
 -- A reader of these bytes has come to `at`: it has passed so many skipped lines, and these lines of a statement.
 pub record Reads (ended : Bool) (bytes : List ℕ) (blank : ℕ) (begun : List (List ℕ)) (at : ℕ) : Type 0 where

@@ -142,6 +142,8 @@ fn said_behind(alloc: Global, first: &[u8], rest: &[u8]) -> Result<Option<Statem
         Ok(alone(Statement::Build, rest))
     } else if first == b"run".as_slice() {
         Ok(alone(Statement::Run, rest))
+    } else if first == b"quit".as_slice() {
+        Ok(alone(Statement::Quit, rest))
     } else {
         Ok(None)
     }

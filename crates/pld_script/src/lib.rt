@@ -5,10 +5,12 @@ mod grammar;
 mod line;
 mod next;
 mod number;
+mod scan;
 mod statement;
 mod text;
 
 pub use line::LineKind;
 pub use next::{Found, Next, Skipped, next_statement};
+pub use scan::Scan;
 pub use statement::Statement;
 pub use text::{Text, WordList};

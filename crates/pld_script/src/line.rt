@@ -3,7 +3,7 @@
 ghost use Rattle.std.specs.Prelude.{◌≡◌, ◌≢◌, ◌≤◌, ◌<◌, ℕ, length, slice_index, MatchOption, IfSome, [], ◌∷◌, true, false};
 ghost use Rattle.pld_script.specs.Lines.{stripped as stripped_of, lines};
 ghost use Rattle.pld_script.specs.Words.{is_blank, begins_word, words_of, are_only};
-ghost use Rattle.pld_script.specs.Grammar.{starts_comment, kind_of as kind, closes_text as closes};
+ghost use Rattle.pld_script.specs.Grammar.{starts_comment, opens_text as opens, kind_of as kind, closes_text as closes};
 ghost use Rattle.pld_script.specs.Statements.{IsLine};
 
 /// What a line is, where no text is open.
@@ -71,7 +71,7 @@ pub fn is_only_word(line: &[u8], word: &[u8]) -> bool
 {
     match split_word(line) {
         None => false,
-        Some((first, rest)) => split_word(rest).is_none() && first == word,
+        Some((first, rest)) => first == word && split_word(rest).is_none(),
     }
 }
 
@@ -84,16 +84,25 @@ fn is_comment(word: &[u8]) -> bool
     }
 }
 
-/// What the line is, where no text is open.
+/// Whether a line whose first word is this one opens a text.
+fn opens_text(first: &[u8]) -> bool
+    ensures { result ≡ opens first.now }
+{
+    first == b"op".as_slice() || first == b"replace".as_slice()
+}
+
+/// What the line is, where no text is open. Of a comment only the first byte is looked at.
 pub fn kind_of(line: &[u8]) -> LineKind
     ensures { result ≡ kind line.now }
 {
-    match split_word(line) {
+    let rest = without_blanks(line);
+    if is_comment(rest) {
+        return LineKind::Skipped;
+    }
+    match split_word(rest) {
         None => LineKind::Skipped,
         Some((first, _)) => {
-            if is_comment(first) {
-                LineKind::Skipped
-            } else if first == b"op".as_slice() || first == b"replace".as_slice() {
+            if opens_text(first) {
                 LineKind::Opens
             } else {
                 LineKind::Single

@@ -18,4 +18,6 @@ pub enum Statement {
     Build,
     /// `run`
     Run,
+    /// `quit`: the session ends here, and nothing behind it is looked at.
+    Quit,
 }

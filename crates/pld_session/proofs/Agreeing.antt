@@ -1,5 +1,5 @@
 -- The replies to a text are the same, whatever the records of its runs.
-use Rattle.std.proofs.Common.{◌≡◌, ℕ, true, false, List, [], ◌∷◌, ◌++◌, Option, Some, None, refl, sym, ap, ◌∙◌, subst}
+use Rattle.std.proofs.Common.{◌≡◌, ℕ, Bool, true, false, List, [], ◌∷◌, ◌++◌, Option, Some, None, refl, sym, ap, ◌∙◌, subst}
 use Rattle.std.proofs.lemmas.List.Elements.{All-head, All-tail}
 use Rattle.rv_back.specs.Form.{SoftForm}
 use Rattle.feed_run.specs.declared.run.RunEnd.{RunEnd}
@@ -7,7 +7,8 @@ use Rattle.feed_run.specs.Runs.{IsRun, end_after, written_after}
 use Rattle.pld_script.specs.declared.statement.Statement.{Statement}
 use Rattle.pld_script.specs.declared.statement.Statement.TheVariants as says
 use Rattle.pld_script.specs.Statements.{Placed}
-use Rattle.pld_driver.specs.Walk.{Answered, Step, Says, Runs, Walked, after, walk}
+use Rattle.pld_driver.specs.Walk.{Answered, Step, Says, Runs, Walked, after, walk, is_quit}
+use Rattle.pld_driver.proofs.Walks.{pick}
 use Rattle.pld_session.specs.declared.session.Record.{Record}
 use Rattle.pld_session.specs.States.{State}
 use Rattle.pld_session.specs.Replies.{run_reply}
@@ -47,6 +48,7 @@ answer_agrees st number (Some (says.Input name to)) ends words = tt
 answer_agrees st number (Some (says.Output from name)) ends words = tt
 answer_agrees st number (Some (says.Feed name feed)) ends words = tt
 answer_agrees st number (Some says.Build) ends words = tt
+answer_agrees st number (Some says.Quit) ends words = tt
 answer_agrees st number (Some says.Run) ends words = run_agrees st number (parts_in st) refl ends words
 
 -- one answer, and then the others
@@ -67,9 +69,15 @@ step_agrees st (Runs f) (r ∷ rs) (s ∷ ss) walked g again a b =
     ap (λ l. (f r).reply ++ l) (again (f r).next rs ss later (subst P (sym e) other))
     ∙ ap (λ t. t.reply ++ (walked t.next ss).out) e
 
+quit_agrees : (b : Bool) (rs ss : List Record) (w v : Walked State Record) → (IsRecorded w → IsRecorded v → w.out ≡ v.out)
+    → IsRecorded (pick b rs w) → IsRecorded (pick b ss v) → (pick b rs w).out ≡ (pick b ss v).out
+quit_agrees true rs ss w v again a b = refl
+quit_agrees false rs ss w v again a b = again a b
+
 pub walks_agree : (ends : EndsAgree) (words : WordsAgree) (st : State) (placed : List Placed) (rs ss : List Record) → IsRecorded (walk answer st placed rs) → IsRecorded (walk answer st placed ss)
     → (walk answer st placed rs).out ≡ (walk answer st placed ss).out
 walks_agree ends words st [] rs ss a b = refl
 walks_agree ends words st (p ∷ later) rs ss a b =
-    step_agrees st (answer st p) rs ss (λ next rest. walk answer next later rest) (answer_agrees st p.number p.said ends words)
-    (λ next rs' ss' a' b'. walks_agree ends words next later rs' ss' a' b') a b
+    quit_agrees (is_quit p.said) rs ss _ _
+    (step_agrees st (answer st p) rs ss (λ next rest. walk answer next later rest) (answer_agrees st p.number p.said ends words)
+    (λ next rs' ss' a' b'. walks_agree ends words next later rs' ss' a' b')) a b

@@ -1,6 +1,6 @@
--- What is said to a statement, and what the session holds then. At this stage there are six statements:
+-- What is said to a statement, and what the session holds then. At this stage there are six statements beside `quit`:
 -- `op`, `input`, `output`, `feed`, `build` and `run`, each once and in this order. Any other is a bad line.
-use Rattle.std.specs.Prelude.{ℕ, ◌*◌, Bool, true, false, not, ◌&&◌, ◌==◌, nat_le, is_some, is_none, List, length, Option, Some, None, if◌then◌else◌}
+use Rattle.std.specs.Prelude.{ℕ, ◌*◌, Bool, true, false, not, ◌&&◌, ◌==◌, nat_le, is_some, is_none, List, [], length, Option, Some, None, if◌then◌else◌}
 use Rattle.std.specs.Str.{bytes_eq}
 use Rattle.pld_base.specs.declared.event.End.{End}
 use Rattle.pld_base.specs.declared.event.Kind.{Kind}
@@ -131,6 +131,10 @@ FitsParts rounds (Some parts) run = IsRun (steps_of rounds) parts.image parts.fe
 abbrev pub Fits : State → Record → Type 0
 Fits st run = FitsParts st.rounds (parts_in st) run
 
+-- nothing is said, and nothing changes
+abbrev pub says_nothing : State → Answered State
+says_nothing st = record { reply = []; refused = false; permits = 0; next = st }
+
 -- ---- any statement
 
 abbrev pub answer_to : State → ℕ → Option Statement → Step State Record
@@ -141,6 +145,7 @@ answer_to st number (Some (says.Output from name)) = Says (accepts_if (may_outpu
 answer_to st number (Some (says.Feed name words)) = Says (accepts_if (may_feed st name words) st number (record st { feed = Some words }))
 answer_to st number (Some says.Build) = Says (builds st number)
 answer_to st number (Some says.Run) = runs st number (parts_in st)
+answer_to st number (Some says.Quit) = Says (says_nothing st)
 
 abbrev pub answer : State → Placed → Step State Record
 answer st placed = answer_to st placed.number placed.said

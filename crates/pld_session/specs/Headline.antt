@@ -4,7 +4,7 @@ use Rattle.std.specs.Str.{bytes_eq}
 use Rattle.std.specs.Io.KnownBytes.{Consumes, Keeps}
 use Rattle.pld_driver.specs.declared.engine.Bench.{Bench}
 use Rattle.pld_driver.specs.declared.status.Status.{Status}
-use Rattle.pld_driver.specs.Outcome.{Outcome, IsExact}
+use Rattle.pld_driver.specs.Outcome.{Outcome, IsExact, IsTooLong}
 use Rattle.pld_session.specs.declared.session.Record.{Record}
 use Rattle.pld_session.specs.States.{at_first}
 use Rattle.pld_session.specs.Answers.{answer, Fits}
@@ -27,6 +27,10 @@ Ran rounds left_old left_new old new bench result = Outcome answer Fits (at_firs
 -- The other way round: what was done leaves one status, or want of memory.
 abbrev pub RanExactly : ℕ → Option (List ℕ) → Option (List ℕ) → Option (List ℕ) → List ℕ → Bench Record → Status → Type 0
 RanExactly rounds left old new taken bench result = IsExact answer (at_first rounds) left old new taken bench.permits bench.records.items result
+
+-- The same of a text that is too long.
+abbrev pub RanTooLong : ℕ → Option (List ℕ) → Option (List ℕ) → List ℕ → Bench Record → Status → Type 0
+RanTooLong rounds old new taken bench result = IsTooLong answer (at_first rounds) old new taken bench.permits bench.records.items result
 
 -- the rounds of a run, where no option says another number
 abbrev pub default_rounds : ℕ

@@ -150,7 +150,7 @@ impl Session {
         is_name(name, &self.input) && words.len() <= FEED_WORDS
     }
 
-    /// Answers a statement.
+    /// Answers a statement. `quit` has no reply; the driver ends the session there.
     fn answer_statement(
         &mut self,
         alloc: Global,
@@ -172,6 +172,7 @@ impl Session {
             Statement::Feed(name, words) => self.take_feed(number, name, words, reply),
             Statement::Build => self.build(alloc, number, bench, reply),
             Statement::Run => self.run(alloc, number, bench, reply),
+            Statement::Quit => Ok(false),
         }
     }
 

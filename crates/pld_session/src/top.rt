@@ -2,8 +2,7 @@
 
 ghost use Rattle.std.specs.Prelude.{◌≡◌, ◌↔◌, true, false, map, string_bytes, IsSome};
 ghost use Rattle.pld_io.specs.Outside.{Rose};
-ghost use Rattle.pld_driver.specs.Outcome.{IsTooLong};
-ghost use Rattle.pld_session.specs.Headline.{IsFresh, IsInRange, Ran, RanExactly, NothingHappened, is_command as is_command_of, default_rounds};
+ghost use Rattle.pld_session.specs.Headline.{IsFresh, IsInRange, Ran, RanExactly, RanTooLong, NothingHappened, is_command as is_command_of, default_rounds};
 
 use crate::session::{Record, Session};
 use pld_driver::{Status, run};
@@ -24,9 +23,11 @@ pub struct Options {
     pub workers: u8,
 }
 
-/// Runs a session on one thread: reads the source to its end, and then answers each statement.
-/// It waits for nobody. At want of memory, and at a fault of the sink, a part of the replies was
-/// written; at a fault of the source, and where the text has more than 16,777,216 bytes, none was.
+/// Runs a session on one thread: takes the text in pieces of at most 4,096 bytes, and answers each
+/// statement as soon as its last line was taken, up to `quit` or the end. It waits for nobody. At
+/// want of memory, and at a fault of the sink, a part of the replies was written; at a fault of the
+/// source, and where the text has more than 16,777,216 bytes, all replies to the whole statements
+/// before.
 pub fn pld_plain<S: Source, K: Sink>(
     alloc: Global,
     o: &Options,
@@ -41,7 +42,8 @@ pub fn pld_plain<S: Source, K: Sink>(
     ensures exact { (ran : Ran o.now.rounds (S.left src.old) (S.left src.new) (K.written sink.old) (K.written sink.new) bench.new result) →
         IsSome (K.written sink.old) → (Rose (S.faults src.old) (S.faults src.new) → ⊥) →
         RanExactly o.now.rounds (S.left src.new) (K.written sink.old) (K.written sink.new) ran.taken bench.new result }
-    ensures too_long { (ran : Ran o.now.rounds (S.left src.old) (S.left src.new) (K.written sink.old) (K.written sink.new) bench.new result) → IsTooLong ran.taken result }
+    ensures too_long { (ran : Ran o.now.rounds (S.left src.old) (S.left src.new) (K.written sink.old) (K.written sink.new) bench.new result) →
+        IsSome (K.written sink.old) → RanTooLong o.now.rounds (K.written sink.old) (K.written sink.new) ran.taken bench.new result }
 
     // A fault is told only where there was one.
     ensures read_fault { result ≡ Status.ReadFault → Rose (S.faults src.old) (S.faults src.new) }
@@ -80,7 +82,8 @@ pub fn pld<S: Source, K: Sink>(
     ensures exact { (ran : Ran default_rounds (S.left src.old) (S.left src.new) (K.written sink.old) (K.written sink.new) bench.new result) →
         IsSome (K.written sink.old) → (Rose (S.faults src.old) (S.faults src.new) → ⊥) →
         RanExactly default_rounds (S.left src.new) (K.written sink.old) (K.written sink.new) ran.taken bench.new result }
-    ensures too_long { (ran : Ran default_rounds (S.left src.old) (S.left src.new) (K.written sink.old) (K.written sink.new) bench.new result) → IsTooLong ran.taken result }
+    ensures too_long { (ran : Ran default_rounds (S.left src.old) (S.left src.new) (K.written sink.old) (K.written sink.new) bench.new result) →
+        IsSome (K.written sink.old) → RanTooLong default_rounds (K.written sink.old) (K.written sink.new) ran.taken bench.new result }
 
     // A fault is told only where there was one.
     ensures read_fault { result ≡ Status.ReadFault → Rose (S.faults src.old) (S.faults src.new) }
