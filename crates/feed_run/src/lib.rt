@@ -4,5 +4,5 @@
 mod laws;
 mod run;
 
-pub use laws::runs_agree;
+pub use laws::{runs_agree, runs_write_the_stream};
 pub use run::{Move, Progress, Run, RunEnd, run_on};

@@ -52,17 +52,17 @@ pub output_told : (op : Operator) (ports : List Port) (name : List ℕ) (place c
 output_told op ports name place count e f g =
     below place count _ _ (f ∙ ap (λ x. place_in (ports_at Out x) name) e) (g ∙ ap (λ x. length (ports_at Out x)) e)
 
-none_filled : AreFilled []
+pub none_filled : AreFilled []
 none_filled t lt = absurd (omega (arith, lt))
 
-filled_on : (x : ℕ) (xs : List ℕ) → 1 ≤ x → AreFilled xs → AreFilled (x ∷ xs)
+pub filled_on : (x : ℕ) (xs : List ℕ) → 1 ≤ x → AreFilled xs → AreFilled (x ∷ xs)
 filled_on x xs h f zero lt = h
 filled_on x xs h f (suc t) lt = f t (omega (arith, lt))
 
-filled_first : (x : ℕ) (xs : List ℕ) → AreFilled (x ∷ xs) → 1 ≤ x
+pub filled_first : (x : ℕ) (xs : List ℕ) → AreFilled (x ∷ xs) → 1 ≤ x
 filled_first x xs f = f 0 (omega arith)
 
-filled_rest : (x : ℕ) (xs : List ℕ) → AreFilled (x ∷ xs) → AreFilled xs
+pub filled_rest : (x : ℕ) (xs : List ℕ) → AreFilled (x ∷ xs) → AreFilled xs
 filled_rest x xs f t lt = f (suc t) (omega (arith, lt))
 
 filled_cons : (told first more : Bool) (x : ℕ) (xs : List ℕ) → told ≡ (first && more) → Tells first (1 ≤ x) → Tells more (AreFilled xs) → Tells told (AreFilled (x ∷ xs))

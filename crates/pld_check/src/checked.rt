@@ -1,9 +1,10 @@
 //! Operators that the compilers take.
 
-ghost use Rattle.std.specs.Prelude.{◌≡◌, ◌≤◌, ◌<◌, ◌↔◌, ◌&&◌, IsTrue, MatchOption, map, sum, min, length};
+ghost use Rattle.std.specs.Prelude.{◌≡◌, ◌≤◌, ◌<◌, ◌↔◌, ◌&&◌, IsTrue, true, false, MatchOption, map, sum, min, length};
 ghost use Rattle.pld_ast.specs.Resolve.{program_of};
 ghost use Rattle.pld_ast.specs.Sound.{IsSound};
 ghost use Rattle.pld_check.specs.Known.{AreFilled};
+ghost use Rattle.pld_check.specs.Tested.{is_sound as is_sound_program};
 
 use crate::known::{are_known, both};
 use pld_ast::{Array, Operator, count_ins, count_outs};
@@ -112,7 +113,7 @@ fn sized_arrays(op: &Operator) -> bool
 }
 
 // Whether the names are declared, and the operator is within the limits.
-fn is_sound(op: &Operator) -> bool
+fn decide(op: &Operator) -> bool
     ensures { IsTrue result ↔ IsSound (program_of op.now) }
 {
     let room = both(few_ports(op), few_variables(op));
@@ -123,10 +124,19 @@ fn is_sound(op: &Operator) -> bool
     both(both(room, sized_arrays(op)), body)
 }
 
+// The same, told by the definition's test too.
+fn is_sound(op: &Operator) -> bool
+    ensures exact { IsTrue result ↔ IsSound (program_of op.now) }
+    ensures tested { result ≡ is_sound_program (program_of op.now) }
+{
+    decide(op)
+}
+
 impl Checked {
     /// This operator, if its names are declared and it is within the limits; None where that isn't so.
     pub fn of(operator: Operator) -> Option<Checked>
-        ensures { MatchOption result (IsSound (program_of operator) → ⊥) (λ checked. (checked ≡ operator) × IsSound (program_of operator)) }
+        ensures exact { MatchOption result (IsSound (program_of operator) → ⊥) (λ checked. (checked ≡ operator) × IsSound (program_of operator)) }
+        ensures tested { MatchOption result (is_sound_program (program_of operator) ≡ false) (λ checked. is_sound_program (program_of operator) ≡ true) }
     {
         if is_sound(&operator) {
             Some(Checked { operator })
