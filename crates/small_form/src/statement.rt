@@ -122,16 +122,16 @@ fn tested<'a>(
 ) -> Result<Option<(Expr, &'a [Token])>, NoMemory>
     ensures { IfOk result (λ found. MatchOption found (NoStatement scope.now (Token.Mark While ∷ tokens.now)) (λ x. IsTest scope.now tokens.now x.0 x.1.now)) }
 {
-    let Some(open) = behind(Mark::Open, tokens) else {
+    let Some(bracketed) = behind(Mark::Open, tokens) else {
         return Ok(None);
     };
-    let Some((test, valued)) = expression(alloc, scope, open)? else {
+    let Some((test, valued)) = expression(alloc, scope, bracketed)? else {
         return Ok(None);
     };
-    let Some(close) = behind(Mark::Close, valued) else {
+    let Some(closed) = behind(Mark::Close, valued) else {
         return Ok(None);
     };
-    let Some(inner) = behind(Mark::OpenBrace, close) else {
+    let Some(inner) = behind(Mark::OpenBrace, closed) else {
         return Ok(None);
     };
     Ok(Some((test, inner)))
