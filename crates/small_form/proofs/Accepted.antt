@@ -1,8 +1,7 @@
 -- What is a text by the grammar is read.
-use Rattle.std.proofs.Common.{ℕ, ◌≡◌, refl, sym, ◌∙◌, ap, List, [], ◌∷◌, ◌++◌, Option, Some, None, Bool, true, ◌&&◌, append_assoc, append-nil}
+use Rattle.std.proofs.Common.{ℕ, ◌≡◌, refl, sym, ◌∙◌, ap, List, [], ◌∷◌, ◌++◌, Some, None, Bool, true, ◌&&◌, append_assoc, append-nil}
 use Rattle.std.specs.Prelude.{if◌then◌else◌}
 use Rattle.std.specs.Str.{bytes_eq}
-use Rattle.pld_ast.specs.declared.tree.BinOp.{BinOp}
 use Rattle.pld_ast.specs.declared.tree.BinOp.TheVariants.{Lt}
 use Rattle.pld_ast.specs.declared.tree.Ty.TheVariants as ty
 use Rattle.pld_ast.specs.declared.tree.Expr.{Expr}
@@ -13,29 +12,15 @@ use Rattle.pld_ast.specs.declared.tree.Stmt.TheVariants as stmt
 use Rattle.pld_ast.specs.declared.tree.Operator.{Operator}
 use Rattle.small_form.specs.declared.token.Token.{Token}
 use Rattle.small_form.specs.declared.token.Token.TheVariants.{Name, Number, Mark}
-use Rattle.small_form.specs.declared.token.Mark as a
 use Rattle.small_form.specs.declared.token.Mark.TheVariants.{Int, Read, Open, Close, OpenBrace, Semicolon, Assign, Less}
 use Rattle.small_form.specs.declared.scope.Scope.{Scope}
 use Rattle.small_form.specs.Form as form
 use Rattle.small_form.specs.Form.{used_of, is_declared, is_taken, only_if, scope_of, with_scalar, operator_with, Before, Nothing, Behind, Left, at_sum, joined, Loop, Hole, ForAssign, ForWrite, ForTest, operand, after, declarations, operator_in}
-use Rattle.small_form.specs.Parts.{BeginsOtherwise, IsOperator, plus, minus, NoOperator, closed}
-use Rattle.small_form.proofs.Moves.{settled}
+use Rattle.small_form.specs.Parts.{BeginsOtherwise, NoOperator, closed}
+use Rattle.small_form.proofs.Moves.{only, operated, lessened, settled}
 use Rattle.small_form.proofs.Steps.{an_assign, assign_ends, write_goes, write_ends, while_begins, test_ends, brace_ends}
 use Rattle.small_form.proofs.Texts.{declared_all}
 use Rattle.small_form.specs.Grammar.{IsTerm, number, scalar, group, IsSum, term, more, IsComparison, sum, less, AreStatements, none, read, assign, write, repeat, IsRest, statements, declare, IsText, text}
-
-only : {A : Type 0} → (t : Bool) (o : Option A) → t ≡ true → only_if t o ≡ o
-only t o h = ap (λ b. only_if b o) h
-
-operated : (scope : Scope) (hole : Hole) (wide : Before) (stack : List Left) (e : Expr) (m : a.Mark) (o : BinOp) (ts : List Token) → IsOperator m o
-    → after scope hole wide stack e (Mark m ∷ ts) ≡ operand scope hole (record { wide = wide; near = Behind e o }) stack ts
-unfolding after
-operated scope hole wide stack e m o ts plus = refl
-operated scope hole wide stack e m o ts minus = refl
-
-compared : (scope : Scope) (hole : Hole) (stack : List Left) (e : Expr) (ts : List Token) → after scope hole Nothing stack e (Mark Less ∷ ts) ≡ operand scope hole (at_sum (Behind e Lt)) stack ts
-unfolding after
-compared scope hole stack e ts = refl
 
 bracketed : (scope : Scope) (hole : Hole) (left : Left) (stack : List Left) (e : Expr) (ts : List Token) → after scope hole Nothing (left ∷ stack) e (Mark Close ∷ ts) ≡ after scope hole left.wide stack (joined left.near e) ts
 unfolding after
@@ -67,7 +52,7 @@ mutual
   comparison_read : (scope : Scope) (ts rest : List Token) (e : Expr) → IsComparison scope ts rest e → NoOperator rest → (hole : Hole) (stack : List Left) → operand scope hole (at_sum Nothing) stack ts ≡ after scope hole Nothing stack e rest
   comparison_read scope _ _ _ (sum ts rest e s) n hole stack = sum_read scope ts rest e s hole Nothing stack
   comparison_read scope _ _ _ (less ts mid rest e f c s) n hole stack =
-      comparison_read scope ts (Mark Less ∷ mid) e c (λ r h. cc, λ r h. cc) hole stack ∙ compared scope hole stack e mid ∙ sum_read scope mid rest f s hole (Behind e Lt) stack ∙ settled scope hole (Behind e Lt) stack f rest n
+      comparison_read scope ts (Mark Less ∷ mid) e c (λ r h. cc, λ r h. cc) hole stack ∙ lessened scope hole stack e _ mid refl ∙ sum_read scope mid rest f s hole (Behind e Lt) stack ∙ settled scope hole (Behind e Lt) stack f rest n
 
 -- statements
 

@@ -13,12 +13,8 @@ use Rattle.small_form.specs.declared.scope.Scope.{Scope}
 use Rattle.small_form.specs.Form.{used_of, is_declared, only_if, Before, Nothing, Behind, Left, at_sum, joined, Hole, ForAssign, ForWrite, ForTest, operand, after}
 use Rattle.small_form.specs.Parts.{BeginsOtherwise, NoOperator, BeginsWithOperator, IsOperator, plus, minus, NoName, NoNumber, IsOperand, NoOperand, BeginsWithSum, NoSum, IsExpression, NoExpression}
 
-only : {A : Type 0} → (t : Bool) (o : Option A) → t ≡ true → only_if t o ≡ o
+pub only : {A : Type 0} → (t : Bool) (o : Option A) → t ≡ true → only_if t o ≡ o
 only t o h = ap (λ b. only_if b o) h
-
-none : {A : Type 0} → (t : Bool) → only_if {A = A} t None ≡ None
-none true = refl
-none false = refl
 
 -- operands
 
@@ -93,7 +89,7 @@ reached_first scope ts rest e p = record { goes = λ hole wide stack. p.goes hol
 pub no_first : (scope : Scope) (ts : List Token) → NoOperand scope ts → NoSum scope ts
 no_first scope ts p = λ hole wide stack. p hole (at_sum wide) stack
 
-operated : (scope : Scope) (hole : Hole) (wide : Before) (stack : List Left) (e : Expr) (m : a.Mark) (o : BinOp) (ts : List Token) → IsOperator m o
+pub operated : (scope : Scope) (hole : Hole) (wide : Before) (stack : List Left) (e : Expr) (m : a.Mark) (o : BinOp) (ts : List Token) → IsOperator m o
     → after scope hole wide stack e (Mark m ∷ ts) ≡ operand scope hole (record { wide = wide; near = Behind e o }) stack ts
 unfolding after
 operated scope hole wide stack e m o ts plus = refl
@@ -147,7 +143,7 @@ compared_first scope ts rest e p = record { goes = λ hole stack. p.goes hole No
 pub no_sum : (scope : Scope) (ts : List Token) → NoSum scope ts → NoExpression scope ts
 no_sum scope ts p = λ hole stack. p hole Nothing stack
 
-lessened : (scope : Scope) (hole : Hole) (stack : List Left) (e : Expr) (mid ts : List Token) → mid ≡ Mark Less ∷ ts → after scope hole Nothing stack e mid ≡ operand scope hole (at_sum (Behind e Lt)) stack ts
+pub lessened : (scope : Scope) (hole : Hole) (stack : List Left) (e : Expr) (mid ts : List Token) → mid ≡ Mark Less ∷ ts → after scope hole Nothing stack e mid ≡ operand scope hole (at_sum (Behind e Lt)) stack ts
 unfolding after
 lessened scope hole stack e mid ts h = ap (after scope hole Nothing stack e) h
 

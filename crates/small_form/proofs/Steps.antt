@@ -193,13 +193,10 @@ write_whole scope p v ts a b d rest h i e n =
 
 -- `while (..) { .. }`
 
-while_open : (scope : Scope) (ts : List Token) → BeginsOtherwise Open ts → (loops : List Loop) (front : List Stmt) → statements scope loops front (Mark While ∷ ts) ≡ None
+pub no_while_open : (scope : Scope) (ts : List Token) → BeginsOtherwise Open ts → (loops : List Loop) (front : List Stmt) → statements scope loops front (Mark While ∷ ts) ≡ None
 unfolding statements
-while_open scope (Mark Open ∷ ts) h loops front = absurd (h ts refl)
-while_open scope _ h loops front = refl
-
-pub no_while_open : (scope : Scope) (ts : List Token) → BeginsOtherwise Open ts → NoStatement scope (Mark While ∷ ts)
-no_while_open scope ts h = while_open scope ts h
+no_while_open scope (Mark Open ∷ ts) h loops front = absurd (h ts refl)
+no_while_open scope _ h loops front = refl
 
 pub while_begins : (scope : Scope) (loops : List Loop) (front : List Stmt) (ts a : List Token) → ts ≡ Mark Open ∷ a → statements scope loops front (Mark While ∷ ts) ≡ operand scope (ForTest loops front) (at_sum Nothing) [] a
 unfolding statements
@@ -251,16 +248,13 @@ while_whole scope v body ts inner rest t b =
 
 -- other tokens
 
-other : (scope : Scope) (ts : List Token) → BeginsOtherwise CloseBrace ts → NoName ts → BeginsOtherwise Write ts → BeginsOtherwise While ts → (loops : List Loop) (front : List Stmt) → statements scope loops front ts ≡ None
+pub no_statement : (scope : Scope) (ts : List Token) → BeginsOtherwise CloseBrace ts → NoName ts → BeginsOtherwise Write ts → BeginsOtherwise While ts → (loops : List Loop) (front : List Stmt) → statements scope loops front ts ≡ None
 unfolding statements
-other scope (Mark CloseBrace ∷ ts) h n w l loops front = absurd (h ts refl)
-other scope (Name x ∷ ts) h n w l loops front = absurd (n x ts refl)
-other scope (Mark Write ∷ ts) h n w l loops front = absurd (w ts refl)
-other scope (Mark While ∷ ts) h n w l loops front = absurd (l ts refl)
-other scope _ h n w l loops front = refl
-
-pub no_statement : (scope : Scope) (ts : List Token) → BeginsOtherwise CloseBrace ts → NoName ts → BeginsOtherwise Write ts → BeginsOtherwise While ts → NoStatement scope ts
-no_statement scope ts h n w l = other scope ts h n w l
+no_statement scope (Mark CloseBrace ∷ ts) h n w l loops front = absurd (h ts refl)
+no_statement scope (Name x ∷ ts) h n w l loops front = absurd (n x ts refl)
+no_statement scope (Mark Write ∷ ts) h n w l loops front = absurd (w ts refl)
+no_statement scope (Mark While ∷ ts) h n w l loops front = absurd (l ts refl)
+no_statement scope _ h n w l loops front = refl
 
 -- blocks
 
