@@ -1,9 +1,9 @@
 -- What is read is a text by the grammar.
-use Rattle.std.proofs.Common.{ℕ, zero, suc, ◌<◌, ◌≤◌, ◌≡◌, refl, sym, ◌∙◌, ap, subst, List, [], ◌∷◌, length, Option, Some, None, Bool, true, false, ◌&&◌, arith}
+use Rattle.std.proofs.Common.{ℕ, zero, suc, ◌<◌, ◌≤◌, ◌≡◌, refl, sym, ◌∙◌, ap, subst, List, [], ◌∷◌, ◌++◌, length, Option, Some, None, Bool, true, false, ◌&&◌, arith, append_assoc, append-nil}
 use Rattle.std.specs.Prelude.{if◌then◌else◌}
 use Rattle.std.specs.Str.{bytes_eq}
 use Rattle.pld_ast.specs.declared.tree.Ty.TheVariants as ty
-use Rattle.pld_ast.specs.declared.tree.BinOp.TheVariants.{Add, Sub}
+use Rattle.pld_ast.specs.declared.tree.BinOp.TheVariants.{Lt, Add, Sub}
 use Rattle.pld_ast.specs.declared.tree.Expr.{Expr}
 use Rattle.pld_ast.specs.declared.tree.Expr.TheVariants.{Lit, Var, Binary}
 use Rattle.pld_ast.specs.declared.tree.Target.TheVariants as target
@@ -12,12 +12,14 @@ use Rattle.pld_ast.specs.declared.tree.Stmt.TheVariants as stmt
 use Rattle.pld_ast.specs.declared.tree.Operator.{Operator}
 use Rattle.small_form.specs.declared.token.Token.{Token}
 use Rattle.small_form.specs.declared.token.Token.TheVariants.{Name, Number, Mark}
-use Rattle.small_form.specs.declared.token.Mark.TheVariants.{Void, In, Out, Int, Read, Write, Open, Close, OpenBrace, CloseBrace, Comma, Semicolon, Assign, Plus, Minus}
+use Rattle.small_form.specs.declared.token.Mark.TheVariants.{Void, In, Out, Int, Read, Write, While, Open, Close, OpenBrace, CloseBrace, Comma, Semicolon, Assign, Plus, Minus, Less}
 use Rattle.small_form.specs.declared.scope.Scope.{Scope}
 use Rattle.small_form.specs.Form as form
-use Rattle.small_form.specs.Form.{used_of, is_declared, is_taken, only_if, prefixed, scope_of, with_scalar, operator_with, Left, Nothing, Behind, joined, Hole, ForAssign, ForWrite, operand, after, declarations, operator_in}
-use Rattle.small_form.specs.Parts.{NoOperator, plus, minus}
-use Rattle.small_form.specs.Grammar.{IsTerm, number, scalar, group, IsSum, term, more, AreStatements, none, read, assign, write, IsRest, statements, declare, IsText, text}
+use Rattle.small_form.specs.Form.{used_of, is_declared, is_taken, only_if, scope_of, with_scalar, operator_with, Before, Nothing, Behind, Left, at_sum, joined, Loop, Hole, ForAssign, ForWrite, ForTest, operand, after, declarations, operator_in}
+use Rattle.small_form.specs.Parts.{NoOperator, plus, minus, IsUnjoined, closed}
+use Rattle.small_form.proofs.Moves.{settled}
+use Rattle.small_form.proofs.Steps.{brace_ends}
+use Rattle.small_form.specs.Grammar.{IsTerm, number, scalar, group, IsSum, term, more, IsComparison, sum, less, AreStatements, none, read, assign, write, repeat, IsRest, statements, declare, IsText, text}
 
 -- ---- what a choice that gave something chose
 
@@ -29,66 +31,75 @@ none_some : {A : Type 0} → (t : Bool) (x : A) → only_if t None ≡ Some x �
 none_some true x h = cc
 none_some false x h = cc
 
-prefixed_some : (s : Stmt) (o : Option (List Stmt)) (body : List Stmt) → prefixed s o ≡ Some body → (rest : List Stmt) × (o ≡ Some rest) × (s ∷ rest ≡ body)
-prefixed_some s (Some rest) body h = (rest, refl, some_is h)
-  where
-    some_is : Some (s ∷ rest) ≡ Some body → s ∷ rest ≡ body
-    some_is e = cc
-prefixed_some s None body h = cc
-
 and_true : (a b : Bool) → (a && b) ≡ true → (a ≡ true) × (b ≡ true)
 and_true true b h = (refl, h)
 and_true false b h = cc
 
--- ---- terms and sums
+-- ---- terms, sums and comparisons; `all` is what the whole text gives
 
 -- ts begins with a term, and behind it the text goes on
-record TermFound (scope : Scope) (hole : Hole) (left : Left) (stack : List Left) (ts : List Token) (body : List Stmt) : Type 0 where
+record TermFound (scope : Scope) (hole : Hole) (left : Left) (stack : List Left) (ts : List Token) (all : List Stmt) : Type 0 where
   e : Expr
   rest : List Token
   is_term : IsTerm scope ts rest e
-  goes_on : after scope hole stack (joined left e) rest ≡ Some body
+  goes_on : after scope hole left.wide stack (joined left.near e) rest ≡ Some all
   shorter : length rest < length ts
 
--- `from` begins with a sum, and behind it the text goes on, with no operator
-record SumFound (scope : Scope) (hole : Hole) (stack : List Left) (from ts : List Token) (body : List Stmt) : Type 0 where
+-- `from` begins with a sum, and behind it the text goes on, with no `+` or `-`
+record SumFound (scope : Scope) (hole : Hole) (wide : Before) (stack : List Left) (from ts : List Token) (all : List Stmt) : Type 0 where
   e : Expr
   rest : List Token
   is_sum : IsSum scope from rest e
   ended : NoOperator rest
-  goes_on : after scope hole stack e rest ≡ Some body
+  goes_on : after scope hole wide stack e rest ≡ Some all
+  shorter : length rest ≤ length ts
+
+-- `from` begins with a whole expression, and behind it the text goes on, with no operator
+record ComparisonFound (scope : Scope) (hole : Hole) (stack : List Left) (from ts : List Token) (all : List Stmt) : Type 0 where
+  e : Expr
+  rest : List Token
+  is_comparison : IsComparison scope from rest e
+  ended : IsUnjoined rest
+  goes_on : after scope hole Nothing stack e rest ≡ Some all
   shorter : length rest ≤ length ts
 
 -- an open bracket is closed
-closes : (scope : Scope) (hole : Hole) (left : Left) (stack : List Left) (e : Expr) (ts : List Token) (body : List Stmt) → NoOperator ts → after scope hole (left ∷ stack) e ts ≡ Some body
-    → (rest : List Token) × (ts ≡ Mark Close ∷ rest) × (after scope hole stack (joined left e) rest ≡ Some body)
+closes : (scope : Scope) (hole : Hole) (left : Left) (stack : List Left) (e : Expr) (ts : List Token) (all : List Stmt) → IsUnjoined ts → after scope hole Nothing (left ∷ stack) e ts ≡ Some all
+    → (rest : List Token) × (ts ≡ Mark Close ∷ rest) × (after scope hole left.wide stack (joined left.near e) rest ≡ Some all)
 unfolding after
-closes scope hole left stack e [] body n h = cc
-closes scope hole left stack e (Mark Plus ∷ ts) body n h = absurd (n.0 ts refl)
-closes scope hole left stack e (Mark Minus ∷ ts) body n h = absurd (n.1 ts refl)
-closes scope hole left stack e (Mark Close ∷ ts) body n h = (ts, refl, h)
-closes scope (ForAssign x) left stack e (Mark Semicolon ∷ ts) body n h = cc
-closes scope (ForWrite p) left stack e (Mark Semicolon ∷ ts) body n h = cc
-closes scope hole left stack e (_ ∷ ts) body n h = cc
+closes scope hole left stack e [] all n h = cc
+closes scope hole left stack e (Mark Plus ∷ ts) all n h = absurd (n.operator.0 ts refl)
+closes scope hole left stack e (Mark Minus ∷ ts) all n h = absurd (n.operator.1 ts refl)
+closes scope hole left stack e (Mark Less ∷ ts) all n h = absurd (n.less ts refl)
+closes scope hole left stack e (Mark Close ∷ ts) all n h = (ts, refl, h)
+closes scope (ForAssign loops front x) left stack e (Mark Semicolon ∷ ts) all n h = cc
+closes scope (ForWrite loops front p) left stack e (Mark Semicolon ∷ ts) all n h = cc
+closes scope (ForTest loops front) left stack e (Mark Semicolon ∷ ts) all n h = cc
+closes scope hole left stack e (_ ∷ ts) all n h = cc
 
 no_zero : (t : Token) (ts : List Token) → length (t ∷ ts) ≤ 0 → ⊥
 no_zero t ts h = omega arith
 
--- the brackets round a sum are a term
-closed_found : (scope : Scope) (hole : Hole) (left : Left) (stack : List Left) (ts mid : List Token) (body : List Stmt) → length mid < length ts → SumFound scope hole (left ∷ stack) ts mid body
-    → TermFound scope hole left stack (Mark Open ∷ ts) body
-closed_found scope hole left stack ts mid body w s =
-    let c = closes scope hole left stack s.e s.rest body s.ended s.goes_on in
-    let P : List Token → Type 0 = λ r. IsSum scope ts r s.e in
+-- the brackets round an expression are a term
+closed_found : (scope : Scope) (hole : Hole) (left : Left) (stack : List Left) (ts mid : List Token) (all : List Stmt) → length mid < length ts → ComparisonFound scope hole (left ∷ stack) ts mid all
+    → TermFound scope hole left stack (Mark Open ∷ ts) all
+closed_found scope hole left stack ts mid all w s =
+    let c = closes scope hole left stack s.e s.rest all s.ended s.goes_on in
+    let P : List Token → Type 0 = λ r. IsComparison scope ts r s.e in
     let v : length s.rest ≤ length mid = s.shorter in
     let l : length s.rest ≡ length (Mark Close ∷ c.0) = ap length c.1 in
-    record { e = s.e; rest = c.0; is_term = group ts c.0 s.e (subst P c.1 s.is_sum); goes_on = c.2; shorter = omega arith }
+    record { e = s.e; rest = c.0; is_term = group ts c.0 s.e (subst P c.1 s.is_comparison); goes_on = c.2; shorter = omega arith }
 
 -- what was found in fewer tokens was found in more
-weaker : (scope : Scope) (hole : Hole) (stack : List Left) (from mid ts : List Token) (body : List Stmt) → length mid ≤ length ts → SumFound scope hole stack from mid body → SumFound scope hole stack from ts body
-weaker scope hole stack from mid ts body w s =
+weaker : (scope : Scope) (hole : Hole) (wide : Before) (stack : List Left) (from mid ts : List Token) (all : List Stmt) → length mid ≤ length ts → SumFound scope hole wide stack from mid all → SumFound scope hole wide stack from ts all
+weaker scope hole wide stack from mid ts all w s =
     let v : length s.rest ≤ length mid = s.shorter in
     record { e = s.e; rest = s.rest; is_sum = s.is_sum; ended = s.ended; goes_on = s.goes_on; shorter = omega arith }
+
+weaker_too : (scope : Scope) (hole : Hole) (stack : List Left) (from mid ts : List Token) (all : List Stmt) → length mid ≤ length ts → ComparisonFound scope hole stack from mid all → ComparisonFound scope hole stack from ts all
+weaker_too scope hole stack from mid ts all w s =
+    let v : length s.rest ≤ length mid = s.shorter in
+    record { e = s.e; rest = s.rest; is_comparison = s.is_comparison; ended = s.ended; goes_on = s.goes_on; shorter = omega arith }
 
 below : {a b n : ℕ} → a < b → b ≤ n → a ≤ n
 below h k = omega arith
@@ -96,182 +107,238 @@ below h k = omega arith
 under : {a b : ℕ} → a < b → a ≤ suc b
 under h = omega arith
 
+falls : {a b c : ℕ} → a ≤ b → b < c → a < c
+falls h k = omega arith
+
 tail_below : (n : ℕ) (t : Token) (ts : List Token) → length (t ∷ ts) ≤ suc n → length ts ≤ n
 tail_below n t ts h = omega arith
 
 mutual
   unfolding operand after
 
-  term_found : (n : ℕ) (scope : Scope) (hole : Hole) (left : Left) (stack : List Left) (ts : List Token) (body : List Stmt) → length ts ≤ n → operand scope hole left stack ts ≡ Some body
-      → TermFound scope hole left stack ts body
-  term_found n scope hole left stack [] body w h = cc
-  term_found n scope hole left stack (Number k ∷ ts) body w h = record { e = Lit k ty.Int; rest = ts; is_term = number k ts; goes_on = h; shorter = omega arith }
-  term_found n scope hole left stack (Name x ∷ ts) body w h =
-      let c = only_some (is_declared scope x) _ body h in
+  term_found : (n : ℕ) (scope : Scope) (hole : Hole) (left : Left) (stack : List Left) (ts : List Token) (all : List Stmt) → length ts ≤ n → operand scope hole left stack ts ≡ Some all
+      → TermFound scope hole left stack ts all
+  term_found n scope hole left stack [] all w h = cc
+  term_found n scope hole left stack (Number k ∷ ts) all w h = record { e = Lit k ty.Int; rest = ts; is_term = number k ts; goes_on = h; shorter = omega arith }
+  term_found n scope hole left stack (Name x ∷ ts) all w h =
+      let c = only_some (is_declared scope x) _ all h in
       record { e = Var (used_of x); rest = ts; is_term = scalar x ts c.0; goes_on = c.1; shorter = omega arith }
-  term_found zero scope hole left stack (Mark Open ∷ ts) body w h = absurd (no_zero (Mark Open) ts w)
-  term_found (suc n) scope hole left stack (Mark Open ∷ ts) body w h =
-      let t = term_found n scope hole Nothing (left ∷ stack) ts body (tail_below n (Mark Open) ts w) h in
-      closed_found scope hole left stack ts t.rest body t.shorter
-      (sum_found n scope hole (left ∷ stack) ts t.rest t.e body (below t.shorter (tail_below n (Mark Open) ts w)) (term ts t.rest t.e t.is_term) t.goes_on)
-  term_found n scope hole left stack (_ ∷ ts) body w h = cc
+  term_found zero scope hole left stack (Mark Open ∷ ts) all w h = absurd (no_zero (Mark Open) ts w)
+  term_found (suc n) scope hole left stack (Mark Open ∷ ts) all w h =
+      let l = tail_below n (Mark Open) ts w in
+      let t = term_found n scope hole (at_sum Nothing) (left ∷ stack) ts all l h in
+      let s = sum_found n scope hole Nothing (left ∷ stack) ts t.rest t.e all (below t.shorter l) (term ts t.rest t.e t.is_term) t.goes_on in
+      closed_found scope hole left stack ts s.rest all (falls s.shorter t.shorter)
+      (comparison_found n scope hole (left ∷ stack) ts s.rest s.e all (below (falls s.shorter t.shorter) l) (sum ts s.rest s.e s.is_sum) s.ended s.goes_on)
+  term_found n scope hole left stack (_ ∷ ts) all w h = cc
 
-  sum_found : (n : ℕ) (scope : Scope) (hole : Hole) (stack : List Left) (from ts : List Token) (e : Expr) (body : List Stmt) → length ts ≤ n → IsSum scope from ts e → after scope hole stack e ts ≡ Some body
-      → SumFound scope hole stack from ts body
-  sum_found zero scope hole stack from (Mark Plus ∷ ts) e body w s h = absurd (no_zero (Mark Plus) ts w)
-  sum_found (suc n) scope hole stack from (Mark Plus ∷ ts) e body w s h =
-      let t = term_found n scope hole (Behind e Add) stack ts body (tail_below n (Mark Plus) ts w) h in
-      weaker scope hole stack from t.rest (Mark Plus ∷ ts) body (under t.shorter)
-      (sum_found n scope hole stack from t.rest (Binary Add e t.e) body (below t.shorter (tail_below n (Mark Plus) ts w)) (more from ts t.rest Plus Add e t.e s plus t.is_term) t.goes_on)
-  sum_found zero scope hole stack from (Mark Minus ∷ ts) e body w s h = absurd (no_zero (Mark Minus) ts w)
-  sum_found (suc n) scope hole stack from (Mark Minus ∷ ts) e body w s h =
-      let t = term_found n scope hole (Behind e Sub) stack ts body (tail_below n (Mark Minus) ts w) h in
-      weaker scope hole stack from t.rest (Mark Minus ∷ ts) body (under t.shorter)
-      (sum_found n scope hole stack from t.rest (Binary Sub e t.e) body (below t.shorter (tail_below n (Mark Minus) ts w)) (more from ts t.rest Minus Sub e t.e s minus t.is_term) t.goes_on)
-  sum_found n scope hole stack from [] e body w s h = record { e = e; rest = []; is_sum = s; ended = (λ r q. cc, λ r q. cc); goes_on = h; shorter = omega arith }
-  sum_found n scope hole stack from (t ∷ ts) e body w s h = record { e = e; rest = t ∷ ts; is_sum = s; ended = (λ r q. cc, λ r q. cc); goes_on = h; shorter = omega arith }
+  sum_found : (n : ℕ) (scope : Scope) (hole : Hole) (wide : Before) (stack : List Left) (from ts : List Token) (e : Expr) (all : List Stmt) → length ts ≤ n → IsSum scope from ts e → after scope hole wide stack e ts ≡ Some all
+      → SumFound scope hole wide stack from ts all
+  sum_found zero scope hole wide stack from (Mark Plus ∷ ts) e all w s h = absurd (no_zero (Mark Plus) ts w)
+  sum_found (suc n) scope hole wide stack from (Mark Plus ∷ ts) e all w s h =
+      let l = tail_below n (Mark Plus) ts w in
+      let t = term_found n scope hole (record { wide = wide; near = Behind e Add }) stack ts all l h in
+      weaker scope hole wide stack from t.rest (Mark Plus ∷ ts) all (under t.shorter)
+      (sum_found n scope hole wide stack from t.rest (Binary Add e t.e) all (below t.shorter l) (more from ts t.rest Plus Add e t.e s plus t.is_term) t.goes_on)
+  sum_found zero scope hole wide stack from (Mark Minus ∷ ts) e all w s h = absurd (no_zero (Mark Minus) ts w)
+  sum_found (suc n) scope hole wide stack from (Mark Minus ∷ ts) e all w s h =
+      let l = tail_below n (Mark Minus) ts w in
+      let t = term_found n scope hole (record { wide = wide; near = Behind e Sub }) stack ts all l h in
+      weaker scope hole wide stack from t.rest (Mark Minus ∷ ts) all (under t.shorter)
+      (sum_found n scope hole wide stack from t.rest (Binary Sub e t.e) all (below t.shorter l) (more from ts t.rest Minus Sub e t.e s minus t.is_term) t.goes_on)
+  sum_found n scope hole wide stack from [] e all w s h = record { e = e; rest = []; is_sum = s; ended = (λ r q. cc, λ r q. cc); goes_on = h; shorter = omega arith }
+  sum_found n scope hole wide stack from (t ∷ ts) e all w s h = record { e = e; rest = t ∷ ts; is_sum = s; ended = (λ r q. cc, λ r q. cc); goes_on = h; shorter = omega arith }
+
+  comparison_found : (n : ℕ) (scope : Scope) (hole : Hole) (stack : List Left) (from ts : List Token) (e : Expr) (all : List Stmt) → length ts ≤ n → IsComparison scope from ts e → NoOperator ts → after scope hole Nothing stack e ts ≡ Some all
+      → ComparisonFound scope hole stack from ts all
+  comparison_found zero scope hole stack from (Mark Less ∷ ts) e all w c o h = absurd (no_zero (Mark Less) ts w)
+  comparison_found (suc n) scope hole stack from (Mark Less ∷ ts) e all w c o h =
+      let l = tail_below n (Mark Less) ts w in
+      let t = term_found n scope hole (at_sum (Behind e Lt)) stack ts all l h in
+      let s = sum_found n scope hole (Behind e Lt) stack ts t.rest t.e all (below t.shorter l) (term ts t.rest t.e t.is_term) t.goes_on in
+      let g = sym (settled scope hole (Behind e Lt) stack s.e s.rest s.ended) ∙ s.goes_on in
+      weaker_too scope hole stack from s.rest (Mark Less ∷ ts) all (under (falls s.shorter t.shorter))
+      (comparison_found n scope hole stack from s.rest (Binary Lt e s.e) all (below (falls s.shorter t.shorter) l) (less from ts s.rest e s.e c s.is_sum) s.ended g)
+  comparison_found n scope hole stack from [] e all w c o h = record { e = e; rest = []; is_comparison = c; ended = record { operator = o; less = λ r q. cc }; goes_on = h; shorter = omega arith }
+  comparison_found n scope hole stack from (t ∷ ts) e all w c o h = record { e = e; rest = t ∷ ts; is_comparison = c; ended = record { operator = o; less = λ r q. cc }; goes_on = h; shorter = omega arith }
+
+-- ts begins with a whole expression, and behind it the text goes on, with no operator
+record ExpressionFound (scope : Scope) (hole : Hole) (stack : List Left) (ts : List Token) (all : List Stmt) : Type 0 where
+  e : Expr
+  rest : List Token
+  is_comparison : IsComparison scope ts rest e
+  ended : IsUnjoined rest
+  goes_on : after scope hole Nothing stack e rest ≡ Some all
+  shorter : length rest < length ts
+
+whole_comparison : (scope : Scope) (hole : Hole) (stack : List Left) (ts mid : List Token) (all : List Stmt) → length mid < length ts → SumFound scope hole Nothing stack ts mid all → ExpressionFound scope hole stack ts all
+whole_comparison scope hole stack ts mid all w s =
+    let v : length s.rest ≤ length mid = s.shorter in
+    let c : ComparisonFound scope hole stack ts s.rest all = comparison_found (length ts) scope hole stack ts s.rest s.e all (omega arith) (sum ts s.rest s.e s.is_sum) s.ended s.goes_on in
+    let u : length c.rest ≤ length s.rest = c.shorter in
+    record { e = c.e; rest = c.rest; is_comparison = c.is_comparison; ended = c.ended; goes_on = c.goes_on; shorter = omega arith }
+
+whole_sum : (scope : Scope) (hole : Hole) (stack : List Left) (ts : List Token) (all : List Stmt) → TermFound scope hole (at_sum Nothing) stack ts all → ExpressionFound scope hole stack ts all
+whole_sum scope hole stack ts all t =
+    let w : length t.rest < length ts = t.shorter in
+    whole_comparison scope hole stack ts t.rest all w (sum_found (length ts) scope hole Nothing stack ts t.rest t.e all (omega arith) (term ts t.rest t.e t.is_term) t.goes_on)
+
+expression_found : (scope : Scope) (hole : Hole) (stack : List Left) (ts : List Token) (all : List Stmt) → operand scope hole (at_sum Nothing) stack ts ≡ Some all → ExpressionFound scope hole stack ts all
+expression_found scope hole stack ts all h = whole_sum scope hole stack ts all (term_found (length ts) scope hole (at_sum Nothing) stack ts all (omega arith) h)
 
 -- ---- statements
 
-ends_assign : (scope : Scope) (x : List ℕ) (e : Expr) (ts : List Token) (body : List Stmt) → NoOperator ts → after scope (ForAssign x) [] e ts ≡ Some body
-    → (rest : List Token) × (ts ≡ Mark Semicolon ∷ rest) × (prefixed (stmt.Assign (target.Scalar (used_of x)) e) (form.statements scope rest) ≡ Some body)
-unfolding after
-ends_assign scope x e [] body n h = cc
-ends_assign scope x e (Mark Plus ∷ ts) body n h = absurd (n.0 ts refl)
-ends_assign scope x e (Mark Minus ∷ ts) body n h = absurd (n.1 ts refl)
-ends_assign scope x e (Mark Semicolon ∷ ts) body n h = (ts, refl, h)
-ends_assign scope x e (_ ∷ ts) body n h = cc
-
-ends_write : (scope : Scope) (p : List ℕ) (e : Expr) (ts : List Token) (body : List Stmt) → NoOperator ts → after scope (ForWrite p) [] e ts ≡ Some body
-    → (rest : List Token) × (ts ≡ Mark Close ∷ Mark Semicolon ∷ rest) × (prefixed (stmt.Write (used_of p) e) (form.statements scope rest) ≡ Some body)
-unfolding after
-ends_write scope p e [] body n h = cc
-ends_write scope p e (Mark Plus ∷ ts) body n h = absurd (n.0 ts refl)
-ends_write scope p e (Mark Minus ∷ ts) body n h = absurd (n.1 ts refl)
-ends_write scope p e (Mark Close ∷ Mark Semicolon ∷ ts) body n h = (ts, refl, h)
-ends_write scope p e (Mark Close ∷ []) body n h = cc
-ends_write scope p e (Mark Close ∷ (_ ∷ ts)) body n h = cc
-ends_write scope p e (_ ∷ ts) body n h = cc
-
--- ts begins with this statement, and behind it the text goes on
-record Assigns (scope : Scope) (x : List ℕ) (ts : List Token) (body : List Stmt) : Type 0 where
-  e : Expr
+-- ts begins with the statements of a block and its brace, and behind it the text goes on
+record BlockFound (scope : Scope) (loops : List Loop) (front : List Stmt) (ts : List Token) (all : List Stmt) : Type 0 where
+  body : List Stmt
   rest : List Token
-  later : List Stmt
-  is_declared_ : is_declared scope x ≡ true
-  is_sum : IsSum scope ts (Mark Semicolon ∷ rest) e
-  goes_on : form.statements scope rest ≡ Some later
-  whole : stmt.Assign (target.Scalar (used_of x)) e ∷ later ≡ body
+  are : AreStatements scope ts rest body
+  goes_on : closed scope loops (front ++ body) rest ≡ Some all
   shorter : length rest < length ts
 
-assigns : (scope : Scope) (x : List ℕ) (ts : List Token) (body : List Stmt) → only_if (is_declared scope x) (operand scope (ForAssign x) Nothing [] ts) ≡ Some body → Assigns scope x ts body
-assigns scope x ts body h =
-    let d = only_some (is_declared scope x) _ body h in
-    let t : TermFound scope (ForAssign x) Nothing [] ts body = term_found (length ts) scope (ForAssign x) Nothing [] ts body (omega arith) d.1 in
-    let s = sum_found (length ts) scope (ForAssign x) [] ts t.rest t.e body (below t.shorter (omega arith)) (term ts t.rest t.e t.is_term) t.goes_on in
-    let c = ends_assign scope x s.e s.rest body s.ended s.goes_on in
-    let g = prefixed_some _ _ body c.2 in
-    let P : List Token → Type 0 = λ r. IsSum scope ts r s.e in
-    let v : length s.rest ≤ length t.rest = s.shorter in
-    let w : length t.rest < length ts = t.shorter in
+-- the same of texts of at most n tokens
+abbrev BlocksFound : ℕ → Scope → List Stmt → Type 0
+BlocksFound n scope all = (loops : List Loop) (front : List Stmt) (ts : List Token) → length ts ≤ n → form.statements scope loops front ts ≡ Some all → BlockFound scope loops front ts all
+
+-- one statement in front of a block's others
+one_more : (scope : Scope) (loops : List Loop) (front : List Stmt) (s : Stmt) (ts rest : List Token) (all : List Stmt) → BlockFound scope loops (front ++ s ∷ []) rest all
+    → ((end : List Token) (body : List Stmt) → AreStatements scope rest end body → AreStatements scope ts end (s ∷ body)) → length rest < length ts → BlockFound scope loops front ts all
+one_more scope loops front s ts rest all b c w =
+    let v : length b.rest < length rest = b.shorter in
+    record { body = s ∷ b.body; rest = b.rest; are = c b.rest b.body b.are; goes_on = ap (λ x. closed scope loops x b.rest) (sym (append_assoc front (s ∷ []) b.body)) ∙ b.goes_on; shorter = omega arith }
+
+no_more : (scope : Scope) (loops : List Loop) (front : List Stmt) (ts : List Token) (all : List Stmt) → form.statements scope loops front (Mark CloseBrace ∷ ts) ≡ Some all → BlockFound scope loops front (Mark CloseBrace ∷ ts) all
+no_more scope loops front ts all h = record {
+  body = [];
+  rest = ts;
+  are = none ts;
+  goes_on = ap (λ b. closed scope loops b ts) (append-nil front) ∙ sym (brace_ends scope loops front (Mark CloseBrace ∷ ts) ts refl) ∙ h;
+  shorter = omega arith;
+}
+
+ends_assign : (scope : Scope) (loops : List Loop) (front : List Stmt) (x : List ℕ) (e : Expr) (ts : List Token) (all : List Stmt) → IsUnjoined ts → after scope (ForAssign loops front x) Nothing [] e ts ≡ Some all
+    → (rest : List Token) × (ts ≡ Mark Semicolon ∷ rest) × (form.statements scope loops (front ++ stmt.Assign (target.Scalar (used_of x)) e ∷ []) rest ≡ Some all)
+unfolding after
+ends_assign scope loops front x e [] all n h = cc
+ends_assign scope loops front x e (Mark Plus ∷ ts) all n h = absurd (n.operator.0 ts refl)
+ends_assign scope loops front x e (Mark Minus ∷ ts) all n h = absurd (n.operator.1 ts refl)
+ends_assign scope loops front x e (Mark Less ∷ ts) all n h = absurd (n.less ts refl)
+ends_assign scope loops front x e (Mark Semicolon ∷ ts) all n h = (ts, refl, h)
+ends_assign scope loops front x e (_ ∷ ts) all n h = cc
+
+ends_write : (scope : Scope) (loops : List Loop) (front : List Stmt) (p : List ℕ) (e : Expr) (ts : List Token) (all : List Stmt) → IsUnjoined ts → after scope (ForWrite loops front p) Nothing [] e ts ≡ Some all
+    → (rest : List Token) × (ts ≡ Mark Close ∷ Mark Semicolon ∷ rest) × (form.statements scope loops (front ++ stmt.Write (used_of p) e ∷ []) rest ≡ Some all)
+unfolding after
+ends_write scope loops front p e [] all n h = cc
+ends_write scope loops front p e (Mark Plus ∷ ts) all n h = absurd (n.operator.0 ts refl)
+ends_write scope loops front p e (Mark Minus ∷ ts) all n h = absurd (n.operator.1 ts refl)
+ends_write scope loops front p e (Mark Less ∷ ts) all n h = absurd (n.less ts refl)
+ends_write scope loops front p e (Mark Close ∷ Mark Semicolon ∷ ts) all n h = (ts, refl, h)
+ends_write scope loops front p e (Mark Close ∷ []) all n h = cc
+ends_write scope loops front p e (Mark Close ∷ (_ ∷ ts)) all n h = cc
+ends_write scope loops front p e (_ ∷ ts) all n h = cc
+
+ends_test : (scope : Scope) (loops : List Loop) (front : List Stmt) (e : Expr) (ts : List Token) (all : List Stmt) → IsUnjoined ts → after scope (ForTest loops front) Nothing [] e ts ≡ Some all
+    → (rest : List Token) × (ts ≡ Mark Close ∷ Mark OpenBrace ∷ rest) × (form.statements scope (record { test = e; before = front } ∷ loops) [] rest ≡ Some all)
+unfolding after
+ends_test scope loops front e [] all n h = cc
+ends_test scope loops front e (Mark Plus ∷ ts) all n h = absurd (n.operator.0 ts refl)
+ends_test scope loops front e (Mark Minus ∷ ts) all n h = absurd (n.operator.1 ts refl)
+ends_test scope loops front e (Mark Less ∷ ts) all n h = absurd (n.less ts refl)
+ends_test scope loops front e (Mark Close ∷ Mark OpenBrace ∷ ts) all n h = (ts, refl, h)
+ends_test scope loops front e (Mark Close ∷ []) all n h = cc
+ends_test scope loops front e (Mark Close ∷ (_ ∷ ts)) all n h = cc
+ends_test scope loops front e (_ ∷ ts) all n h = cc
+
+-- `x = ..;`, with what stands behind it
+assign_found : (n : ℕ) (scope : Scope) (loops : List Loop) (front : List Stmt) (x : List ℕ) (ts : List Token) (all : List Stmt) → length ts ≤ n
+    → only_if (is_declared scope x) (operand scope (ForAssign loops front x) (at_sum Nothing) [] ts) ≡ Some all → BlocksFound n scope all → BlockFound scope loops front (Name x ∷ Mark Assign ∷ ts) all
+assign_found n scope loops front x ts all w h again =
+    let d = only_some (is_declared scope x) _ all h in
+    let s : ExpressionFound scope (ForAssign loops front x) [] ts all = expression_found scope (ForAssign loops front x) [] ts all d.1 in
+    let c = ends_assign scope loops front x s.e s.rest all s.ended s.goes_on in
+    let P : List Token → Type 0 = λ r. IsComparison scope ts r s.e in
+    let v : length s.rest < length ts = s.shorter in
     let l : length s.rest ≡ length (Mark Semicolon ∷ c.0) = ap length c.1 in
-    record { e = s.e; rest = c.0; later = g.0; is_declared_ = d.0; is_sum = subst P c.1 s.is_sum; goes_on = g.1; whole = g.2; shorter = omega arith }
+    one_more scope loops front (stmt.Assign (target.Scalar (used_of x)) s.e) (Name x ∷ Mark Assign ∷ ts) c.0 all (again loops (front ++ stmt.Assign (target.Scalar (used_of x)) s.e ∷ []) c.0 (omega arith) c.2)
+    (λ end body a. assign x ts c.0 end s.e body d.0 (subst P c.1 s.is_comparison) a) (omega arith)
 
-record Writes (scope : Scope) (p : List ℕ) (ts : List Token) (body : List Stmt) : Type 0 where
-  e : Expr
-  rest : List Token
-  later : List Stmt
-  is_output : bytes_eq scope.output p ≡ true
-  is_sum : IsSum scope ts (Mark Close ∷ Mark Semicolon ∷ rest) e
-  goes_on : form.statements scope rest ≡ Some later
-  whole : stmt.Write (used_of p) e ∷ later ≡ body
-  shorter : length rest < length ts
-
-writes : (scope : Scope) (p : List ℕ) (ts : List Token) (body : List Stmt) → only_if (bytes_eq scope.output p) (operand scope (ForWrite p) Nothing [] ts) ≡ Some body → Writes scope p ts body
-writes scope p ts body h =
-    let d = only_some (bytes_eq scope.output p) _ body h in
-    let t = term_found (length ts) scope (ForWrite p) Nothing [] ts body (omega arith) d.1 in
-    let s = sum_found (length ts) scope (ForWrite p) [] ts t.rest t.e body (below t.shorter (omega arith)) (term ts t.rest t.e t.is_term) t.goes_on in
-    let c = ends_write scope p s.e s.rest body s.ended s.goes_on in
-    let g = prefixed_some _ _ body c.2 in
-    let P : List Token → Type 0 = λ r. IsSum scope ts r s.e in
-    let v : length s.rest ≤ length t.rest = s.shorter in
-    let w : length t.rest < length ts = t.shorter in
+-- `write(p, ..);`, with what stands behind it
+write_found : (n : ℕ) (scope : Scope) (loops : List Loop) (front : List Stmt) (p : List ℕ) (ts : List Token) (all : List Stmt) → length ts ≤ n
+    → only_if (bytes_eq scope.output p) (operand scope (ForWrite loops front p) (at_sum Nothing) [] ts) ≡ Some all → BlocksFound n scope all → BlockFound scope loops front (Mark Write ∷ Mark Open ∷ Name p ∷ Mark Comma ∷ ts) all
+write_found n scope loops front p ts all w h again =
+    let d = only_some (bytes_eq scope.output p) _ all h in
+    let s : ExpressionFound scope (ForWrite loops front p) [] ts all = expression_found scope (ForWrite loops front p) [] ts all d.1 in
+    let c = ends_write scope loops front p s.e s.rest all s.ended s.goes_on in
+    let P : List Token → Type 0 = λ r. IsComparison scope ts r s.e in
+    let v : length s.rest < length ts = s.shorter in
     let l : length s.rest ≡ length (Mark Close ∷ Mark Semicolon ∷ c.0) = ap length c.1 in
-    record { e = s.e; rest = c.0; later = g.0; is_output = d.0; is_sum = subst P c.1 s.is_sum; goes_on = g.1; whole = g.2; shorter = omega arith }
+    one_more scope loops front (stmt.Write (used_of p) s.e) (Mark Write ∷ Mark Open ∷ Name p ∷ Mark Comma ∷ ts) c.0 all (again loops (front ++ stmt.Write (used_of p) s.e ∷ []) c.0 (omega arith) c.2)
+    (λ end body a. write p ts c.0 end s.e body d.0 (subst P c.1 s.is_comparison) a) (omega arith)
 
-record Reads (scope : Scope) (x p : List ℕ) (ts : List Token) (body : List Stmt) : Type 0 where
-  later : List Stmt
-  is_declared_ : is_declared scope x ≡ true
-  is_input : bytes_eq scope.input p ≡ true
-  goes_on : form.statements scope ts ≡ Some later
-  whole : stmt.Read (target.Scalar (used_of x)) (used_of p) ∷ later ≡ body
+-- `while (..) { .. }`, with what stands behind it
+repeat_found : (n : ℕ) (scope : Scope) (loops : List Loop) (front : List Stmt) (ts : List Token) (all : List Stmt) → length ts ≤ n
+    → operand scope (ForTest loops front) (at_sum Nothing) [] ts ≡ Some all → BlocksFound n scope all → BlockFound scope loops front (Mark While ∷ Mark Open ∷ ts) all
+repeat_found n scope loops front ts all w h again =
+    let s : ExpressionFound scope (ForTest loops front) [] ts all = expression_found scope (ForTest loops front) [] ts all h in
+    let c = ends_test scope loops front s.e s.rest all s.ended s.goes_on in
+    let P : List Token → Type 0 = λ r. IsComparison scope ts r s.e in
+    let v : length s.rest < length ts = s.shorter in
+    let l : length s.rest ≡ length (Mark Close ∷ Mark OpenBrace ∷ c.0) = ap length c.1 in
+    let b : BlockFound scope (record { test = s.e; before = front } ∷ loops) [] c.0 all = again (record { test = s.e; before = front } ∷ loops) [] c.0 (omega arith) c.2 in
+    let u : length b.rest < length c.0 = b.shorter in
+    one_more scope loops front (stmt.While s.e b.body) (Mark While ∷ Mark Open ∷ ts) b.rest all (again loops (front ++ stmt.While s.e b.body ∷ []) b.rest (omega arith) b.goes_on)
+    (λ end body a. repeat ts c.0 b.rest end s.e b.body body (subst P c.1 s.is_comparison) b.are a) (omega arith)
 
-reads : (scope : Scope) (x p : List ℕ) (ts : List Token) (body : List Stmt)
-    → only_if (is_declared scope x && bytes_eq scope.input p) (prefixed (stmt.Read (target.Scalar (used_of x)) (used_of p)) (form.statements scope ts)) ≡ Some body → Reads scope x p ts body
-reads scope x p ts body h =
-    let d = only_some (is_declared scope x && bytes_eq scope.input p) _ body h in
+-- `x = read(p);`, with what stands behind it
+read_found : (n : ℕ) (scope : Scope) (loops : List Loop) (front : List Stmt) (x p : List ℕ) (ts : List Token) (all : List Stmt) → length ts ≤ n
+    → only_if (is_declared scope x && bytes_eq scope.input p) (form.statements scope loops (front ++ stmt.Read (target.Scalar (used_of x)) (used_of p) ∷ []) ts) ≡ Some all → BlocksFound n scope all
+    → BlockFound scope loops front (Name x ∷ Mark Assign ∷ Mark Read ∷ Mark Open ∷ Name p ∷ Mark Close ∷ Mark Semicolon ∷ ts) all
+read_found n scope loops front x p ts all w h again =
+    let d = only_some (is_declared scope x && bytes_eq scope.input p) _ all h in
     let b = and_true (is_declared scope x) (bytes_eq scope.input p) d.0 in
-    let g = prefixed_some _ _ body d.1 in
-    record { later = g.0; is_declared_ = b.0; is_input = b.1; goes_on = g.1; whole = g.2 }
-
--- an assignment, with what stands behind it
-an_assign_found : (scope : Scope) (x : List ℕ) (ts : List Token) (body : List Stmt) (a : Assigns scope x ts body) → AreStatements scope a.rest a.later → AreStatements scope (Name x ∷ Mark Assign ∷ ts) body
-an_assign_found scope x ts body a s = let P : List Stmt → Type 0 = λ b. AreStatements scope (Name x ∷ Mark Assign ∷ ts) b in subst P a.whole (assign x ts a.rest a.e a.later a.is_declared_ a.is_sum s)
-
-a_write_found : (scope : Scope) (p : List ℕ) (ts : List Token) (body : List Stmt) (a : Writes scope p ts body) → AreStatements scope a.rest a.later → AreStatements scope (Mark Write ∷ Mark Open ∷ Name p ∷ Mark Comma ∷ ts) body
-a_write_found scope p ts body a s = let P : List Stmt → Type 0 = λ b. AreStatements scope (Mark Write ∷ Mark Open ∷ Name p ∷ Mark Comma ∷ ts) b in subst P a.whole (write p ts a.rest a.e a.later a.is_output a.is_sum s)
-
-a_read_found : (scope : Scope) (x p : List ℕ) (ts : List Token) (body : List Stmt) (a : Reads scope x p ts body) → AreStatements scope ts a.later
-    → AreStatements scope (Name x ∷ Mark Assign ∷ Mark Read ∷ Mark Open ∷ Name p ∷ Mark Close ∷ Mark Semicolon ∷ ts) body
-a_read_found scope x p ts body a s =
-    let P : List Stmt → Type 0 = λ b. AreStatements scope (Name x ∷ Mark Assign ∷ Mark Read ∷ Mark Open ∷ Name p ∷ Mark Close ∷ Mark Semicolon ∷ ts) b in
-    subst P a.whole (read x p ts a.later a.is_declared_ a.is_input s)
-
-none_found : (scope : Scope) (body : List Stmt) → Some [] ≡ Some body → AreStatements scope (Mark CloseBrace ∷ []) body
-none_found scope body h = let P : List Stmt → Type 0 = λ b. AreStatements scope (Mark CloseBrace ∷ []) b in subst P (some_is body h) none
-  where
-    some_is : (b : List Stmt) → Some [] ≡ Some b → [] ≡ b
-    some_is b e = cc
+    one_more scope loops front (stmt.Read (target.Scalar (used_of x)) (used_of p)) (Name x ∷ Mark Assign ∷ Mark Read ∷ Mark Open ∷ Name p ∷ Mark Close ∷ Mark Semicolon ∷ ts) ts all
+    (again loops (front ++ stmt.Read (target.Scalar (used_of x)) (used_of p) ∷ []) ts w d.1) (λ end body a. read x p ts end body b.0 b.1 a) (omega arith)
 
 -- `x = ..`: a read, or an assignment
-assigned : (n : ℕ) (scope : Scope) (x : List ℕ) (ts : List Token) (body : List Stmt) → length (Name x ∷ Mark Assign ∷ ts) ≤ suc n → form.statements scope (Name x ∷ Mark Assign ∷ ts) ≡ Some body
-    → ((ts' : List Token) (body' : List Stmt) → length ts' ≤ n → form.statements scope ts' ≡ Some body' → AreStatements scope ts' body') → AreStatements scope (Name x ∷ Mark Assign ∷ ts) body
+assigned : (n : ℕ) (scope : Scope) (loops : List Loop) (front : List Stmt) (x : List ℕ) (ts : List Token) (all : List Stmt) → length (Name x ∷ Mark Assign ∷ ts) ≤ suc n → form.statements scope loops front (Name x ∷ Mark Assign ∷ ts) ≡ Some all
+    → BlocksFound n scope all → BlockFound scope loops front (Name x ∷ Mark Assign ∷ ts) all
 unfolding form.statements operand
-assigned n scope x (Mark Read ∷ Mark Open ∷ Name p ∷ Mark Close ∷ Mark Semicolon ∷ ts) body w h again =
-    let a = reads scope x p ts body h in
-    a_read_found scope x p ts body a (again ts a.later (omega arith) a.goes_on)
-assigned n scope x (Mark Read ∷ ts) body w h again = absurd (none_some (is_declared scope x) body h)
-assigned n scope x ts body w h again =
-    let a = assigns scope x ts body h in
-    let v : length a.rest < length ts = a.shorter in
-    an_assign_found scope x ts body a (again a.rest a.later (omega arith) a.goes_on)
+assigned n scope loops front x (Mark Read ∷ Mark Open ∷ Name p ∷ Mark Close ∷ Mark Semicolon ∷ ts) all w h again = read_found n scope loops front x p ts all (omega arith) h again
+assigned n scope loops front x (Mark Read ∷ ts) all w h again = absurd (none_some (is_declared scope x) all h)
+assigned n scope loops front x ts all w h again = assign_found n scope loops front x ts all (omega arith) h again
 
--- `write(p, ..);`
-written : (n : ℕ) (scope : Scope) (p : List ℕ) (ts : List Token) (body : List Stmt) → length (Mark Write ∷ Mark Open ∷ Name p ∷ Mark Comma ∷ ts) ≤ suc n → form.statements scope (Mark Write ∷ Mark Open ∷ Name p ∷ Mark Comma ∷ ts) ≡ Some body
-    → ((ts' : List Token) (body' : List Stmt) → length ts' ≤ n → form.statements scope ts' ≡ Some body' → AreStatements scope ts' body') → AreStatements scope (Mark Write ∷ Mark Open ∷ Name p ∷ Mark Comma ∷ ts) body
+statements_found : (n : ℕ) (scope : Scope) (all : List Stmt) (loops : List Loop) (front : List Stmt) (ts : List Token) → length ts ≤ n → form.statements scope loops front ts ≡ Some all → BlockFound scope loops front ts all
 unfolding form.statements
-written n scope p ts body w h again =
-    let a = writes scope p ts body h in
-    let v : length a.rest < length ts = a.shorter in
-    a_write_found scope p ts body a (again a.rest a.later (omega arith) a.goes_on)
+statements_found n scope all loops front [] w h = cc
+statements_found n scope all loops front (Mark CloseBrace ∷ ts) w h = no_more scope loops front ts all h
+statements_found zero scope all loops front (Name x ∷ Mark Assign ∷ ts) w h = absurd (no_zero (Name x) (Mark Assign ∷ ts) w)
+statements_found (suc n) scope all loops front (Name x ∷ Mark Assign ∷ ts) w h =
+    assigned n scope loops front x ts all w h (λ loops' front' ts' w' h'. statements_found n scope all loops' front' ts' w' h')
+statements_found zero scope all loops front (Mark Write ∷ Mark Open ∷ Name p ∷ Mark Comma ∷ ts) w h = absurd (no_zero (Mark Write) (Mark Open ∷ Name p ∷ Mark Comma ∷ ts) w)
+statements_found (suc n) scope all loops front (Mark Write ∷ Mark Open ∷ Name p ∷ Mark Comma ∷ ts) w h =
+    write_found n scope loops front p ts all (omega arith) h (λ loops' front' ts' w' h'. statements_found n scope all loops' front' ts' w' h')
+statements_found zero scope all loops front (Mark While ∷ Mark Open ∷ ts) w h = absurd (no_zero (Mark While) (Mark Open ∷ ts) w)
+statements_found (suc n) scope all loops front (Mark While ∷ Mark Open ∷ ts) w h =
+    repeat_found n scope loops front ts all (omega arith) h (λ loops' front' ts' w' h'. statements_found n scope all loops' front' ts' w' h')
+statements_found n scope all loops front (_ ∷ ts) w h = cc
 
-ended : (scope : Scope) (body : List Stmt) → form.statements scope (Mark CloseBrace ∷ []) ≡ Some body → AreStatements scope (Mark CloseBrace ∷ []) body
-unfolding form.statements
-ended scope body h = none_found scope body h
+-- behind the brace of a block in no loop the text has ended
+text_ended : (scope : Scope) (body all : List Stmt) (rest : List Token) → closed scope [] body rest ≡ Some all → (rest ≡ []) × (body ≡ all)
+text_ended scope body all [] h = (refl, some_is h)
+  where
+    some_is : Some body ≡ Some all → body ≡ all
+    some_is e = cc
+text_ended scope body all (_ ∷ rest) h = cc
 
-no_other : (scope : Scope) (ts : List Token) (body : List Stmt) → form.statements scope ts ≡ None → form.statements scope ts ≡ Some body → AreStatements scope ts body
-no_other scope ts body e h = let c : None ≡ Some body = sym e ∙ h in cc
-
-statements_found : (n : ℕ) (scope : Scope) (ts : List Token) (body : List Stmt) → length ts ≤ n → form.statements scope ts ≡ Some body → AreStatements scope ts body
-unfolding form.statements
-statements_found n scope [] body w h = cc
-statements_found n scope (Mark CloseBrace ∷ []) body w h = ended scope body h
-statements_found zero scope (Name x ∷ Mark Assign ∷ ts) body w h = absurd (no_zero (Name x) (Mark Assign ∷ ts) w)
-statements_found (suc n) scope (Name x ∷ Mark Assign ∷ ts) body w h = assigned n scope x ts body w h (λ ts' body' w' h'. statements_found n scope ts' body' w' h')
-statements_found zero scope (Mark Write ∷ Mark Open ∷ Name p ∷ Mark Comma ∷ ts) body w h = absurd (no_zero (Mark Write) (Mark Open ∷ Name p ∷ Mark Comma ∷ ts) w)
-statements_found (suc n) scope (Mark Write ∷ Mark Open ∷ Name p ∷ Mark Comma ∷ ts) body w h = written n scope p ts body w h (λ ts' body' w' h'. statements_found n scope ts' body' w' h')
-statements_found n scope (_ ∷ ts) body w h = cc
+whole_found : (scope : Scope) (ts : List Token) (all : List Stmt) → form.statements scope [] [] ts ≡ Some all → AreStatements scope ts [] all
+whole_found scope ts all h =
+    let l : length ts ≤ length ts = omega arith in
+    let b : BlockFound scope [] [] ts all = statements_found (length ts) scope all [] [] ts l h in
+    let e = text_ended scope b.body all b.rest b.goes_on in
+    let P : List Token → Type 0 = λ r. AreStatements scope ts r all in
+    let Q : List Stmt → Type 0 = λ x. AreStatements scope ts b.rest x in
+    subst P e.0 (subst Q e.1 b.are)
 
 -- ---- whole texts
 
@@ -283,10 +350,10 @@ with_body : (scope : Scope) (o : Option (List Stmt)) (op : Operator) → operato
 with_body scope (Some body) op h = (body, refl)
 with_body scope None op h = cc
 
-no_more_declared : (scope : Scope) (ts : List Token) (op : Operator) → operator_with scope (form.statements scope ts) ≡ Some op → IsRest scope ts op
+no_more_declared : (scope : Scope) (ts : List Token) (op : Operator) → operator_with scope (form.statements scope [] [] ts) ≡ Some op → IsRest scope ts op
 no_more_declared scope ts op h =
-    let b = with_body scope (form.statements scope ts) op h in
-    statements scope ts b.0 op (statements_found (length ts) scope ts b.0 (omega arith) b.1) (ap (operator_with scope) (sym b.1) ∙ h)
+    let b = with_body scope (form.statements scope [] [] ts) op h in
+    statements scope ts b.0 op (whole_found scope ts b.0 b.1) (ap (operator_with scope) (sym b.1) ∙ h)
 
 rest_found : (n : ℕ) (scope : Scope) (ts : List Token) (op : Operator) → length ts ≤ n → declarations scope ts ≡ Some op → IsRest scope ts op
 unfolding declarations

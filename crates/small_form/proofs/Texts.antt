@@ -1,5 +1,5 @@
 -- Headers and declarations, as the code reads them.
-use Rattle.std.proofs.Common.{ℕ, ◌≡◌, refl, sym, ◌∙◌, ap, List, ◌∷◌, Option, Some, None, true, false, cond}
+use Rattle.std.proofs.Common.{ℕ, ◌≡◌, refl, sym, ◌∙◌, ap, List, [], ◌∷◌, Option, Some, None, true, false, cond}
 use Rattle.std.specs.Str.{bytes_eq}
 use Rattle.pld_ast.specs.declared.tree.Stmt.{Stmt}
 use Rattle.pld_ast.specs.declared.tree.Operator.{Operator}
@@ -145,7 +145,7 @@ declares_twice scope x ts a b rest e g h t = declares scope x ts a b rest e g h 
 pub declares_one : (scope new : Scope) (x : List ℕ) (ts a b rest : List Token) → ts ≡ Mark Int ∷ a → a ≡ Name x ∷ b → b ≡ Mark Semicolon ∷ rest → is_taken scope x ≡ false → new ≡ with_scalar scope x → declarations new rest ≡ declarations scope ts
 declares_one scope new x ts a b rest e g h t n = ap (λ y. declarations y rest) n ∙ sym (declares scope x ts a b rest e g h ∙ ap (λ y. cond y None (declarations (with_scalar scope x) rest)) t)
 
-pub declared_all : (scope : Scope) (ts : List Token) → BeginsOtherwise Int ts → declarations scope ts ≡ operator_with scope (statements scope ts)
+pub declared_all : (scope : Scope) (ts : List Token) → BeginsOtherwise Int ts → declarations scope ts ≡ operator_with scope (statements scope [] [] ts)
 unfolding declarations
 declared_all scope (Mark Int ∷ ts) h = absurd (h ts refl)
 declared_all scope _ h = refl
@@ -160,8 +160,8 @@ pub begun : (f p q : List ℕ) (ts half rest : List Token) (scope : Scope) → t
     → bytes_eq p q ≡ false → scope ≡ scope_of f p q → declarations scope rest ≡ operator_in ts
 begun f p q ts half rest scope e g h s = sym (headed f p q ts half rest e g ∙ ap (λ b. cond b None (declarations (scope_of f p q) rest)) h ∙ ap (λ x. declarations x rest) (sym s))
 
-pub unread : (scope : Scope) (ts : List Token) (found : Option Operator) → found ≡ operator_with scope (statements scope ts) → statements scope ts ≡ None → ◌≡◌ {A = Option Operator} None found
+pub unread : (scope : Scope) (ts : List Token) (found : Option Operator) → found ≡ operator_with scope (statements scope [] [] ts) → statements scope [] [] ts ≡ None → ◌≡◌ {A = Option Operator} None found
 unread scope ts found e h = sym (e ∙ ap (operator_with scope) h)
 
-pub built : (scope : Scope) (ts : List Token) (found : Option Operator) (body : List Stmt) (op : Operator) → found ≡ operator_with scope (statements scope ts) → statements scope ts ≡ Some body → Some op ≡ operator_with scope (Some body) → Some op ≡ found
+pub built : (scope : Scope) (ts : List Token) (found : Option Operator) (body : List Stmt) (op : Operator) → found ≡ operator_with scope (statements scope [] [] ts) → statements scope [] [] ts ≡ Some body → Some op ≡ operator_with scope (Some body) → Some op ≡ found
 built scope ts found body op e h s = s ∙ sym (e ∙ ap (operator_with scope) h)

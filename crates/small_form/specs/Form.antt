@@ -6,7 +6,7 @@ use Rattle.pld_base.specs.declared.event.Place.{Place}
 use Rattle.pld_base.specs.declared.event.Side.TheVariants as side
 use Rattle.pld_ast.specs.declared.tree.Ty.TheVariants as ty
 use Rattle.pld_ast.specs.declared.tree.BinOp.{BinOp}
-use Rattle.pld_ast.specs.declared.tree.BinOp.TheVariants.{Add, Sub}
+use Rattle.pld_ast.specs.declared.tree.BinOp.TheVariants.{Lt, Add, Sub}
 use Rattle.pld_ast.specs.declared.tree.Used.{Used}
 use Rattle.pld_ast.specs.declared.tree.Scalar.{Scalar}
 use Rattle.pld_ast.specs.declared.tree.Expr.{Expr}
@@ -15,12 +15,10 @@ use Rattle.pld_ast.specs.declared.tree.Target.TheVariants as target
 use Rattle.pld_ast.specs.declared.tree.Stmt.{Stmt}
 use Rattle.pld_ast.specs.declared.tree.Stmt.TheVariants as stmt
 use Rattle.pld_ast.specs.declared.tree.Operator.{Operator}
-use Rattle.pld_ast.specs.Nodes.{action_nodes}
 use Rattle.pld_ast.specs.Resolve.{program_of}
-use Rattle.pld_ast.specs.Straight.{IsStraight}
 use Rattle.small_form.specs.declared.token.Token.{Token}
 use Rattle.small_form.specs.declared.token.Token.TheVariants.{Name, Number, Mark}
-use Rattle.small_form.specs.declared.token.Mark.TheVariants.{Void, In, Out, Int, Read, Write, Open, Close, OpenBrace, CloseBrace, Comma, Semicolon, Assign, Plus, Minus}
+use Rattle.small_form.specs.declared.token.Mark.TheVariants.{Void, In, Out, Int, Read, Write, While, Open, Close, OpenBrace, CloseBrace, Comma, Semicolon, Assign, Plus, Minus, Less}
 use Rattle.small_form.specs.declared.scope.Scope.{Scope}
 use Rattle.small_form.specs.Tokens.{pieces, tokens_in}
 
@@ -56,51 +54,69 @@ is_taken scope x = bytes_eq scope.input x || bytes_eq scope.output x || is_decla
 abbrev pub only_if : {A : Type 0} → Bool → Option A → Option A
 only_if test found = if test then found else None
 
--- a statement in front of statements
-abbrev pub prefixed : Stmt → Option (List Stmt) → Option (List Stmt)
-prefixed s (Some more) = Some (s ∷ more)
-prefixed s None = None
-
--- what stands in front of an operand: nothing, or a value and an operator
-pub data Left : Type 0 where
-  Nothing : Left
-  Behind : Expr → BinOp → Left
+-- what stands in front of a term or a sum: nothing, or a value and an operator
+pub data Before : Type 0 where
+  Nothing : Before
+  Behind : Expr → BinOp → Before
 
 -- a value, joined to what stands in front of it
-abbrev pub joined : Left → Expr → Expr
+abbrev pub joined : Before → Expr → Expr
 joined Nothing e = e
 joined (Behind a o) e = Binary o a e
 
--- the statement that an expression stands in: `x = ..;`, or `write(p, ..);`
-pub data Hole : Type 0 where
-  ForAssign : List ℕ → Hole
-  ForWrite : List ℕ → Hole
+-- what stands in front of an operand: `wide` in front of its sum, and `near` within the sum
+pub record Left : Type 0 where
+  pub wide : Before
+  pub near : Before
 
--- `statements` reads statements up to the closing brace, with which the text ends.
--- `operand` reads on where an operand has to come: in this statement, behind `left`, with `stack` in
--- front of the brackets that are open, the innermost first. `after` reads on behind the value e.
+-- where a sum begins, behind `wide`
+abbrev pub at_sum : Before → Left
+at_sum wide = record { wide = wide; near = Nothing }
+
+-- a loop whose body is being read: its test, and the statements in front of it
+pub record Loop : Type 0 where
+  pub test : Expr
+  pub before : List Stmt
+
+-- what an expression stands in: `x = ..;`, `write(p, ..);`, or the test `while (..) {`. Each with the
+-- loops around it, the innermost first, and the statements in front of it in its own block.
+pub data Hole : Type 0 where
+  ForAssign : List Loop → List Stmt → List ℕ → Hole
+  ForWrite : List Loop → List Stmt → List ℕ → Hole
+  ForTest : List Loop → List Stmt → Hole
+
+-- `statements` reads on within a block: the loops around it, the innermost first, and its statements
+-- so far. Behind the block's brace the innermost loop, with these as its body, is a statement of the
+-- block around it; where there is no loop, the text has to end.
+-- `operand` reads on where an operand has to come: in this hole, behind `left`, with `stack` in
+-- front of the brackets that are open, the innermost first. `after` reads on behind the value e, which
+-- is as much of a sum as was read; `wide` stands in front of the sum.
 unfoldable mutual
-  pub statements : Scope → List Token → Option (List Stmt)
-  statements scope (Mark CloseBrace ∷ []) = Some []
-  statements scope (Name x ∷ Mark Assign ∷ Mark Read ∷ Mark Open ∷ Name p ∷ Mark Close ∷ Mark Semicolon ∷ ts) =
-      only_if (is_declared scope x && bytes_eq scope.input p) (prefixed (stmt.Read (target.Scalar (used_of x)) (used_of p)) (statements scope ts))
-  statements scope (Name x ∷ Mark Assign ∷ ts) = only_if (is_declared scope x) (operand scope (ForAssign x) Nothing [] ts)
-  statements scope (Mark Write ∷ Mark Open ∷ Name p ∷ Mark Comma ∷ ts) = only_if (bytes_eq scope.output p) (operand scope (ForWrite p) Nothing [] ts)
-  statements scope _ = None
+  pub statements : Scope → List Loop → List Stmt → List Token → Option (List Stmt)
+  statements scope loops front (Name x ∷ Mark Assign ∷ Mark Read ∷ Mark Open ∷ Name p ∷ Mark Close ∷ Mark Semicolon ∷ ts) =
+      only_if (is_declared scope x && bytes_eq scope.input p) (statements scope loops (front ++ stmt.Read (target.Scalar (used_of x)) (used_of p) ∷ []) ts)
+  statements scope loops front (Name x ∷ Mark Assign ∷ ts) = only_if (is_declared scope x) (operand scope (ForAssign loops front x) (at_sum Nothing) [] ts)
+  statements scope loops front (Mark Write ∷ Mark Open ∷ Name p ∷ Mark Comma ∷ ts) = only_if (bytes_eq scope.output p) (operand scope (ForWrite loops front p) (at_sum Nothing) [] ts)
+  statements scope loops front (Mark While ∷ Mark Open ∷ ts) = operand scope (ForTest loops front) (at_sum Nothing) [] ts
+  statements scope (loop ∷ loops) front (Mark CloseBrace ∷ ts) = statements scope loops (loop.before ++ stmt.While loop.test front ∷ []) ts
+  statements scope [] front (Mark CloseBrace ∷ []) = Some front
+  statements scope loops front _ = None
 
   pub operand : Scope → Hole → Left → List Left → List Token → Option (List Stmt)
-  operand scope hole left stack (Number n ∷ ts) = after scope hole stack (joined left (Lit n ty.Int)) ts
-  operand scope hole left stack (Name x ∷ ts) = only_if (is_declared scope x) (after scope hole stack (joined left (Var (used_of x))) ts)
-  operand scope hole left stack (Mark Open ∷ ts) = operand scope hole Nothing (left ∷ stack) ts
+  operand scope hole left stack (Number n ∷ ts) = after scope hole left.wide stack (joined left.near (Lit n ty.Int)) ts
+  operand scope hole left stack (Name x ∷ ts) = only_if (is_declared scope x) (after scope hole left.wide stack (joined left.near (Var (used_of x))) ts)
+  operand scope hole left stack (Mark Open ∷ ts) = operand scope hole (at_sum Nothing) (left ∷ stack) ts
   operand scope hole left stack _ = None
 
-  pub after : Scope → Hole → List Left → Expr → List Token → Option (List Stmt)
-  after scope hole stack e (Mark Plus ∷ ts) = operand scope hole (Behind e Add) stack ts
-  after scope hole stack e (Mark Minus ∷ ts) = operand scope hole (Behind e Sub) stack ts
-  after scope hole (left ∷ stack) e (Mark Close ∷ ts) = after scope hole stack (joined left e) ts
-  after scope (ForAssign x) [] e (Mark Semicolon ∷ ts) = prefixed (stmt.Assign (target.Scalar (used_of x)) e) (statements scope ts)
-  after scope (ForWrite p) [] e (Mark Close ∷ Mark Semicolon ∷ ts) = prefixed (stmt.Write (used_of p) e) (statements scope ts)
-  after scope hole stack e _ = None
+  pub after : Scope → Hole → Before → List Left → Expr → List Token → Option (List Stmt)
+  after scope hole wide stack e (Mark Plus ∷ ts) = operand scope hole (record { wide = wide; near = Behind e Add }) stack ts
+  after scope hole wide stack e (Mark Minus ∷ ts) = operand scope hole (record { wide = wide; near = Behind e Sub }) stack ts
+  after scope hole wide stack e (Mark Less ∷ ts) = operand scope hole (at_sum (Behind (joined wide e) Lt)) stack ts
+  after scope hole wide (left ∷ stack) e (Mark Close ∷ ts) = after scope hole left.wide stack (joined left.near (joined wide e)) ts
+  after scope (ForAssign loops front x) wide [] e (Mark Semicolon ∷ ts) = statements scope loops (front ++ stmt.Assign (target.Scalar (used_of x)) (joined wide e) ∷ []) ts
+  after scope (ForWrite loops front p) wide [] e (Mark Close ∷ Mark Semicolon ∷ ts) = statements scope loops (front ++ stmt.Write (used_of p) (joined wide e) ∷ []) ts
+  after scope (ForTest loops front) wide [] e (Mark Close ∷ Mark OpenBrace ∷ ts) = statements scope (record { test = joined wide e; before = front } ∷ loops) [] ts
+  after scope hole wide stack e _ = None
 
 -- the operator with these names and statements
 abbrev pub operator_with : Scope → Option (List Stmt) → Option Operator
@@ -117,7 +133,7 @@ operator_with scope None = None
 -- declarations, each of a new name, and then statements
 unfoldable pub declarations : Scope → List Token → Option Operator
 declarations scope (Mark Int ∷ Name x ∷ Mark Semicolon ∷ ts) = if is_taken scope x then None else declarations (with_scalar scope x) ts
-declarations scope ts = operator_with scope (statements scope ts)
+declarations scope ts = operator_with scope (statements scope [] [] ts)
 
 -- the operator that these tokens make
 unfoldable pub operator_in : List Token → Option Operator
@@ -137,14 +153,9 @@ abbrev pub is_narrow : ℕ → List Token → Bool
 is_narrow d [] = true
 is_narrow d (t ∷ ts) = nat_le (open_after d t) 32 && is_narrow (open_after d t) ts
 
--- an operator of at most 64 scalars and 1,000 nodes
-abbrev pub if_small : Option Operator → Option Operator
-if_small (Some op) = if nat_le (length op.scalars) 64 && nat_le (action_nodes (program_of op).body) 1000 then Some op else None
-if_small None = None
-
 -- the operator that these tokens make, within the limits
 abbrev pub form_in : Option (List Token) → Option Operator
-form_in (Some ts) = if nat_le (length ts) 4096 && is_narrow 0 ts then if_small (operator_in ts) else None
+form_in (Some ts) = if nat_le (length ts) 4096 && is_narrow 0 ts then operator_in ts else None
 form_in None = None
 
 -- the operator with this text, and None where it is outside the small form
@@ -153,6 +164,5 @@ form_of text = if nat_le (length text) 65536 then form_in (tokens_in (pieces tex
 
 -- what the small form promises of an operator
 pub record IsSmall (op : Operator) : Type 0 where
-  pub straight : IsStraight op
   pub ins : (program_of op).ins ≡ 1
   pub outs : (program_of op).outs ≡ 1

@@ -5,7 +5,7 @@ use Rattle.pld_base.specs.Names.{is_digit, is_letter_or_digit, name_in}
 use Rattle.small_form.specs.declared.token.Token.{Token}
 use Rattle.small_form.specs.declared.token.Mark as a
 use Rattle.small_form.specs.declared.token.Token.TheVariants.{Name, Number, Mark}
-use Rattle.small_form.specs.declared.token.Mark.TheVariants.{Void, In, Out, Int, Read, Write, Open, Close, OpenBrace, CloseBrace, Comma, Semicolon, Assign, Plus, Minus}
+use Rattle.small_form.specs.declared.token.Mark.TheVariants.{Void, In, Out, Int, Read, Write, While, Open, Close, OpenBrace, CloseBrace, Comma, Semicolon, Assign, Plus, Minus, Less}
 
 -- spaces, tabs and line ends
 abbrev pub is_blank : ℕ → Bool
@@ -41,7 +41,8 @@ mark_of b =
     if b == 59 then Some Semicolon else
     if b == 61 then Some Assign else
     if b == 43 then Some Plus else
-    if b == 45 then Some Minus else None
+    if b == 45 then Some Minus else
+    if b == 60 then Some Less else None
 
 -- the keyword that is this word
 abbrev pub keyword_of : List ℕ → Option a.Mark
@@ -51,11 +52,12 @@ keyword_of word =
     if bytes_eq word (codes "out") then Some Out else
     if bytes_eq word (codes "int32_t") then Some Int else
     if bytes_eq word (codes "read") then Some Read else
-    if bytes_eq word (codes "write") then Some Write else None
+    if bytes_eq word (codes "write") then Some Write else
+    if bytes_eq word (codes "while") then Some While else None
 
 -- the keywords of the language that the small form doesn't take
 abbrev pub is_reserved : List ℕ → Bool
-is_reserved word = bytes_eq word (codes "uint32_t") || bytes_eq word (codes "if") || bytes_eq word (codes "else") || bytes_eq word (codes "while") || bytes_eq word (codes "for") || bytes_eq word (codes "return")
+is_reserved word = bytes_eq word (codes "uint32_t") || bytes_eq word (codes "if") || bytes_eq word (codes "else") || bytes_eq word (codes "for") || bytes_eq word (codes "return")
 
 -- the number of decimal digits behind n, if each byte is a digit and it is at most 2147483647
 abbrev pub number_from : ℕ → List ℕ → Option ℕ

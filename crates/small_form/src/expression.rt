@@ -1,9 +1,10 @@
-//! Expressions: numbers, names and brackets, joined by `+` and `-` from the left to the right.
+//! Expressions: numbers, names and brackets, joined by `+` and `-`, and such sums joined by `<`, each
+//! from the left to the right.
 
 ghost use Rattle.std.specs.Prelude.{◌≡◌, ◌∷◌, true, false, MatchOption, IfOk};
 ghost use Rattle.small_form.specs.Form.{used_of, is_declared};
 ghost use Rattle.small_form.specs.declared.token.Mark.TheVariants.{Open};
-ghost use Rattle.small_form.specs.Parts.{BeginsOtherwise, NoName as HasNoName, NoNumber as HasNoNumber, NoOperator, BeginsWithOperator, IsOperand, NoOperand, IsExpression, NoExpression};
+ghost use Rattle.small_form.specs.Parts.{BeginsOtherwise, NoName as HasNoName, NoNumber as HasNoNumber, NoOperator, BeginsWithOperator, IsOperand, NoOperand, BeginsWithSum, NoSum, IsExpression, NoExpression};
 
 use crate::scope::{Scope, used};
 use crate::token::{Mark, Token};
@@ -112,6 +113,28 @@ fn operand<'a>(
     group(alloc, scope, rest)
 }
 
+// The sum that the tokens begin with, and what stands behind it, which is no `+` or `-`.
+#[cycle(expression)]
+fn sum<'a>(
+    alloc: Global,
+    scope: &Scope,
+    tokens: &'a [Token],
+) -> Result<Option<(Expr, &'a [Token])>, NoMemory>
+    ensures { IfOk result (λ found. MatchOption found (NoSum scope.now tokens.now) (λ x. BeginsWithSum scope.now tokens.now x.0 x.1.now)) }
+{
+    let Some((mut value, mut rest)) = operand(alloc, scope, tokens)? else {
+        return Ok(None);
+    };
+    while let Some((operator, more)) = operator_first(rest) {
+        let Some((right, more)) = operand(alloc, scope, more)? else {
+            return Ok(None);
+        };
+        value = binary(alloc, operator, value, right)?;
+        rest = more;
+    }
+    Ok(Some((value, rest)))
+}
+
 /// The expression that the tokens begin with, and what stands behind it, which is no operator.
 /// None where they begin with no expression over declared names.
 #[cycle(expression)]
@@ -122,14 +145,14 @@ pub fn expression<'a>(
 ) -> Result<Option<(Expr, &'a [Token])>, NoMemory>
     ensures { IfOk result (λ found. MatchOption found (NoExpression scope.now tokens.now) (λ x. IsExpression scope.now tokens.now x.0 x.1.now)) }
 {
-    let Some((mut value, mut rest)) = operand(alloc, scope, tokens)? else {
+    let Some((mut value, mut rest)) = sum(alloc, scope, tokens)? else {
         return Ok(None);
     };
-    while let Some((operator, more)) = operator_first(rest) {
-        let Some((right, more)) = operand(alloc, scope, more)? else {
+    while let Some(more) = behind(Mark::Less, rest) {
+        let Some((right, more)) = sum(alloc, scope, more)? else {
             return Ok(None);
         };
-        value = binary(alloc, operator, value, right)?;
+        value = binary(alloc, BinOp::Lt, value, right)?;
         rest = more;
     }
     Ok(Some((value, rest)))

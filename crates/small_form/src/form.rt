@@ -1,11 +1,8 @@
 //! Whole texts: the header, the declarations, the statements, and the limits.
 
-ghost use Rattle.std.specs.Prelude.{ℕ, List, ◌≡◌, ◌≤◌, ◌∷◌, [], None, Some, true, MatchOption, IfOk, IfSome};
-ghost use Rattle.std.specs.List.{list_all};
-ghost use Rattle.pld_ast.specs.Straight.{is_straight};
+ghost use Rattle.std.specs.Prelude.{ℕ, List, ◌≡◌, ◌≤◌, ◌∷◌, [], None, Some, MatchOption, IfOk, IfSome};
 ghost use Rattle.small_form.specs.declared.token.Mark.TheVariants.{Void, In, Out, Open, Close, OpenBrace, Comma};
-ghost use Rattle.small_form.specs.Form.{open_after, is_narrow as is_narrow_behind, operator_in, declarations as declarations_of, statements as statements_of, operator_with, if_small as if_small_form, form_of, IsSmall};
-ghost use Rattle.small_form.specs.Parts.{IsShaped};
+ghost use Rattle.small_form.specs.Form.{open_after, is_narrow as is_narrow_behind, operator_in, declarations as declarations_of, statements as statements_of, operator_with, form_of, IsSmall};
 
 use crate::expression::{behind, name_first};
 use crate::scope::{NOWHERE, Scope};
@@ -24,12 +21,6 @@ pub const MOST_TOKENS: usize = 4096;
 
 /// The most brackets that may be open at once.
 pub const MOST_OPEN: usize = 32;
-
-/// The most scalars of an operator.
-pub const MOST_SCALARS: usize = 64;
-
-/// The most nodes of an operator.
-pub const MOST_NODES: u32 = 1000;
 
 // How many brackets are open behind the token.
 fn open_behind(before: usize, token: &Token) -> usize
@@ -103,7 +94,7 @@ fn header_end(tokens: &[Token]) -> Option<(&Name, &[Token])>
 
 // The declarations, and what stands behind them.
 fn declarations(mut scope: Scope, tokens: &[Token]) -> Result<Option<(Scope, &[Token])>, NoMemory>
-    ensures { IfOk result (λ found. MatchOption found (declarations_of scope tokens.now ≡ None) (λ x. declarations_of scope tokens.now ≡ operator_with x.0 (statements_of x.0 x.1.now))) }
+    ensures { IfOk result (λ found. MatchOption found (declarations_of scope tokens.now ≡ None) (λ x. declarations_of scope tokens.now ≡ operator_with x.0 (statements_of x.0 [] [] x.1.now))) }
 {
     let mut rest = tokens;
     while let Some(declared) = behind(Mark::Int, rest) {
@@ -157,7 +148,7 @@ fn assembled(alloc: Global, scope: Scope, body: Items<Stmt>) -> Result<Operator,
 // The operator that the tokens make.
 fn operator(alloc: Global, tokens: &[Token]) -> Result<Option<Operator>, NoMemory>
     ensures form { IfOk result (λ found. found ≡ operator_in tokens.now) }
-    ensures shape { IfOk result (λ found. IfSome found IsShaped) }
+    ensures small { IfOk result (λ found. IfSome found IsSmall) }
 {
     let Some((name, input, half)) = header_start(tokens) else {
         return Ok(None);
@@ -179,21 +170,6 @@ fn operator(alloc: Global, tokens: &[Token]) -> Result<Option<Operator>, NoMemor
     Ok(Some(op))
 }
 
-// The operator, if it has at most 64 scalars and 1,000 nodes.
-fn if_small(op: Operator) -> Option<Operator>
-    requires { IsShaped op }
-    ensures form { result ≡ if_small_form (Some op) }
-    ensures small { IfSome result IsSmall }
-{
-    if op.scalars.len() > MOST_SCALARS {
-        return None;
-    }
-    if op.nodes() > MOST_NODES {
-        return None;
-    }
-    Some(op)
-}
-
 /// The operator with this text. None exactly where the text is outside the small form.
 #[tactic(auto, unfolding(crate::specs::Form::form_of))]
 pub fn read_form(alloc: Global, text: &[u8]) -> Result<Option<Operator>, NoMemory>
@@ -212,10 +188,7 @@ pub fn read_form(alloc: Global, text: &[u8]) -> Result<Option<Operator>, NoMemor
     if !is_narrow(tokens.as_slice()) {
         return Ok(None);
     }
-    let Some(op) = operator(alloc, tokens.as_slice())? else {
-        return Ok(None);
-    };
-    Ok(if_small(op))
+    operator(alloc, tokens.as_slice())
 }
 
 #[cfg(test)]
@@ -247,6 +220,29 @@ mod tests {
                 b"void f(in a,out b){write(b,(2147483647)-(1-0));}"
             )?
         );
+        Ok(())
+    }
+
+    #[test]
+    fn reads_loops(rt: HostRuntime) -> Result<(), Fail> {
+        let text =
+            b"void sum(in a, out b) { int32_t n; int32_t s; while (1) { n = read(a); s = 0; while (0 < n) { s = s + n; n = n - 1; } write(b, s); } }";
+        let op = read_form(rt.alloc(), text)?.ok_or("refused")?;
+        assert_eq!(rt; op.body.len(), 1);
+        assert_eq!(rt; op.nodes(), 19);
+        Ok(())
+    }
+
+    #[test]
+    fn refuses_other_loops(rt: HostRuntime) -> Result<(), Fail> {
+        let alloc = rt.alloc();
+        assert!(rt; !is_refused(alloc, b"void f(in a,out b){while(1<2+3<4){}}")?);
+        assert!(rt; is_refused(alloc, b"void f(in a,out b){while(1){}")?);
+        assert!(rt; is_refused(alloc, b"void f(in a,out b){while(1){}}}")?);
+        assert!(rt; is_refused(alloc, b"void f(in a,out b){while 1{}}")?);
+        assert!(rt; is_refused(alloc, b"void f(in a,out b){while(1);}")?);
+        assert!(rt; is_refused(alloc, b"void f(in a,out b){while(1<=2){}}")?);
+        assert!(rt; is_refused(alloc, b"void f(in a,out b){while(1<<2){}}")?);
         Ok(())
     }
 }

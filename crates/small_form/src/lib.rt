@@ -1,5 +1,5 @@
 //! The small form of operator texts: one operator with one in-port and one out-port, whose
-//! statements assign, read and write.
+//! statements assign, read, write and repeat.
 #![tactic(auto)]
 
 mod expression;

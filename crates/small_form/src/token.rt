@@ -19,6 +19,7 @@ pub enum Mark {
     Int,
     Read,
     Write,
+    While,
     Open,
     Close,
     OpenBrace,
@@ -28,6 +29,7 @@ pub enum Mark {
     Assign,
     Plus,
     Minus,
+    Less,
 }
 
 /// A token of the small form.
@@ -77,6 +79,7 @@ fn mark_from(b: u8) -> Option<Mark>
         b'=' => Some(Mark::Assign),
         b'+' => Some(Mark::Plus),
         b'-' => Some(Mark::Minus),
+        b'<' => Some(Mark::Less),
         _ => None,
     }
 }
@@ -102,6 +105,8 @@ fn keyword(word: &[u8]) -> Option<Mark>
         Some(Mark::Read)
     } else if is_same(word, b"write") {
         Some(Mark::Write)
+    } else if is_same(word, b"while") {
+        Some(Mark::While)
     } else {
         None
     }
@@ -114,7 +119,6 @@ fn is_reserved(word: &[u8]) -> bool
     is_same(word, b"uint32_t")
         || is_same(word, b"if")
         || is_same(word, b"else")
-        || is_same(word, b"while")
         || is_same(word, b"for")
         || is_same(word, b"return")
 }
