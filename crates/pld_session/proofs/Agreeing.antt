@@ -12,7 +12,7 @@ use Rattle.pld_driver.proofs.Walks.{pick}
 use Rattle.pld_session.specs.declared.session.Record.{Record}
 use Rattle.pld_session.specs.States.{State}
 use Rattle.pld_session.specs.Replies.{run_reply}
-use Rattle.pld_session.specs.Answers.{answer, answer_to, Parts, parts_in, ran_reply, runs, steps_of, Fits, FitsParts}
+use Rattle.pld_session.specs.Answers.{answer, answer_to, Parts, parts_in, ran_reply, runs, steps_of, Fits, FitsIn}
 use Rattle.pld_session.specs.Laws.{IsRecorded}
 
 -- two runs that fit end alike, and write the same words
@@ -30,16 +30,16 @@ Agrees st (Runs f) = (r s : Record) → Fits st r → Fits st s → f r ≡ f s
 replies : (rounds : ℕ) (parts : Parts) (m n : ℕ) → EndsAgree → WordsAgree → IsRun (steps_of rounds) parts.image parts.feed m → IsRun (steps_of rounds) parts.image parts.feed n
     → ran_reply rounds parts m ≡ ran_reply rounds parts n
 replies rounds parts m n ends words a b =
-    let F : RunEnd → List ℕ = λ e. run_reply parts.operator parts.output rounds e (written_after parts.image parts.feed m) in
-    let G : List ℕ → List ℕ = λ l. run_reply parts.operator parts.output rounds (end_after parts.image parts.feed n) l in
+    let F : RunEnd → List ℕ = λ e. run_reply parts.name parts.output rounds e (written_after parts.image parts.feed m) in
+    let G : List ℕ → List ℕ = λ l. run_reply parts.name parts.output rounds (end_after parts.image parts.feed n) l in
     ap F (ends (steps_of rounds) parts.image parts.feed m n a b) ∙ ap G (words (steps_of rounds) parts.image parts.feed m n a b)
 
 run_agrees : (st : State) (number : ℕ) (parts : Option Parts) → parts_in st ≡ parts → EndsAgree → WordsAgree → Agrees st (runs st number parts)
 run_agrees st number None e ends words = tt
 run_agrees st number (Some parts) e ends words = λ r s a b.
-    let P : Record → Option Parts → Type 0 = λ x p. FitsParts st.rounds p x in
+    let P : Record → Option Parts → Type 0 = λ x p. FitsIn st.rounds p x in
     let A : Answered State = record { reply = []; refused = false; permits = 0; next = record st { ran = true } } in
-    ap (λ (l : List ℕ). record A { reply = l }) (replies st.rounds parts r.moves s.moves ends words (subst (P r) e a) (subst (P s) e b))
+    ap (λ (l : List ℕ). record A { reply = l }) (replies st.rounds parts r.moves s.moves ends words (subst (P r) e a).is_run (subst (P s) e b).is_run)
 
 answer_agrees : (st : State) (number : ℕ) (said : Option Statement) → EndsAgree → WordsAgree → Agrees st (answer_to st number said)
 answer_agrees st number None ends words = tt

@@ -1,6 +1,6 @@
 -- What is said to a statement, and what the session holds then. At this stage there are six statements beside `quit`:
 -- `op`, `input`, `output`, `feed`, `build` and `run`, each once and in this order. Any other is a bad line.
-use Rattle.std.specs.Prelude.{ℕ, ◌*◌, Bool, true, false, not, ◌&&◌, ◌==◌, nat_le, is_some, is_none, List, [], length, Option, Some, None, if◌then◌else◌}
+use Rattle.std.specs.Prelude.{◌≡◌, ℕ, ◌*◌, Bool, true, false, not, ◌&&◌, ◌==◌, nat_le, is_some, is_none, List, [], length, Option, Some, None, if◌then◌else◌}
 use Rattle.std.specs.Str.{bytes_eq}
 use Rattle.pld_base.specs.declared.event.End.{End}
 use Rattle.pld_base.specs.declared.event.Kind.{Kind}
@@ -8,9 +8,16 @@ use Rattle.pld_base.specs.declared.event.Kind.TheVariants.{Soft, Hard}
 use Rattle.pld_base.specs.declared.event.Side.{Side}
 use Rattle.pld_base.specs.declared.event.Side.TheVariants.{In, Out}
 use Rattle.pld_ast.specs.declared.tree.Operator.{Operator}
+use Rattle.pld_ast.specs.Meaning.{trace}
+use Rattle.pld_ast.specs.Resolve.{program_of}
+use Rattle.pld_check.specs.Tested.{is_sound}
+use Rattle.pld_kahn.specs.Kahn.{BeginsStream, IsWholeStream}
+use Rattle.pld_kahn.specs.Network.{Network}
 use Rattle.small_form.specs.Form.{form_of}
 use Rattle.rv_back.specs.Form.{SoftForm, soft_form}
 use Rattle.feed_run.specs.Runs.{IsRun, end_after, written_after}
+use Rattle.feed_run.specs.Streams.{alone, its_output}
+use Rattle.feed_run.specs.declared.run.RunEnd.TheVariants.{Spent}
 use Rattle.pld_script.specs.declared.statement.Statement.{Statement}
 use Rattle.pld_script.specs.declared.statement.Statement.TheVariants as says
 use Rattle.pld_script.specs.Statements.{Placed}
@@ -31,11 +38,12 @@ accepts st = record { reply = ok_reply; refused = false; permits = 0; next = st 
 abbrev pub accepts_if : Bool → State → ℕ → State → Answered State
 accepts_if test st number next = if test then accepts next else refuses st number
 
--- ---- op
+-- ---- op: a text of the small form, with known names and within the limits
 
 abbrev pub adds_found : State → ℕ → List ℕ → Option Operator → Answered State
 adds_found st number name None = refuses st number
-adds_found st number name (Some operator) = accepts (record st { operator = Some (record { name = name; operator = operator }) })
+adds_found st number name (Some operator) =
+    accepts_if (is_sound (program_of operator)) st number (record st { operator = Some (record { name = name; operator = operator }) })
 
 abbrev pub adds : State → ℕ → List ℕ → Kind → List ℕ → Answered State
 adds st number name Soft text = if is_some st.operator then refuses st number else adds_found st number name (form_of text)
@@ -98,13 +106,14 @@ steps_of rounds = 256 * rounds
 
 -- what a run is made of, if all of it is there
 pub record Parts : Type 0 where
-  pub operator : List ℕ
+  pub name : List ℕ
+  pub operator : Operator
   pub output : List ℕ
   pub feed : List ℕ
   pub image : SoftForm
 
 abbrev pub parts_of : Option Added → Option (List ℕ) → Option (List ℕ) → Option SoftForm → Option Parts
-parts_of (Some added) (Some output) (Some feed) (Some image) = Some (record { operator = added.name; output = output; feed = feed; image = image })
+parts_of (Some added) (Some output) (Some feed) (Some image) = Some (record { name = added.name; operator = added.operator; output = output; feed = feed; image = image })
 parts_of (Some added) (Some output) (Some feed) None = None
 parts_of (Some added) (Some output) None image = None
 parts_of (Some added) None feed image = None
@@ -116,20 +125,36 @@ parts_in st = if st.ran then None else parts_of st.operator st.output st.feed st
 -- the reply to a run that made so many moves
 abbrev pub ran_reply : ℕ → Parts → ℕ → List ℕ
 ran_reply rounds parts moves =
-    run_reply parts.operator parts.output rounds (end_after parts.image parts.feed moves) (written_after parts.image parts.feed moves)
+    run_reply parts.name parts.output rounds (end_after parts.image parts.feed moves) (written_after parts.image parts.feed moves)
 
 abbrev pub runs : State → ℕ → Option Parts → Step State Record
 runs st number None = Says (refuses st number)
 runs st number (Some parts) =
     Runs (λ run. record { reply = ran_reply st.rounds parts run.moves; refused = false; permits = 0; next = record st { ran = true } })
 
--- The record of a run fits: it is a run of the image on the feed, of at most the steps that are allowed.
-abbrev pub FitsParts : ℕ → Option Parts → Record → Type 0
-FitsParts rounds None run = ⊥
-FitsParts rounds (Some parts) run = IsRun (steps_of rounds) parts.image parts.feed run.moves
+-- the operator between its input, with these words, and its output
+abbrev pub design_of : Parts → Network
+design_of parts = alone (trace (program_of parts.operator)) parts.feed
+
+-- the words that a run writes
+abbrev pub words_of : Parts → Record → List ℕ
+words_of parts run = written_after parts.image parts.feed run.moves
+
+-- The record of a run fits. Its words begin the Kahn stream of the output, and are the whole of it where the run is done or stalled.
+pub record FitsParts (rounds : ℕ) (parts : Parts) (run : Record) : Type 0 where
+  -- it is a run of the image on the feed, of at most the steps that are allowed
+  pub is_run : IsRun (steps_of rounds) parts.image parts.feed run.moves
+  -- the image is that of a full build
+  pub built : parts.image ≡ soft_form parts.operator
+  pub begins : BeginsStream (design_of parts) its_output 0 (words_of parts run)
+  pub whole : (end_after parts.image parts.feed run.moves ≡ Spent → ⊥) → IsWholeStream (design_of parts) its_output 0 (words_of parts run)
+
+abbrev pub FitsIn : ℕ → Option Parts → Record → Type 0
+FitsIn rounds None run = ⊥
+FitsIn rounds (Some parts) run = FitsParts rounds parts run
 
 abbrev pub Fits : State → Record → Type 0
-Fits st run = FitsParts st.rounds (parts_in st) run
+Fits st run = FitsIn st.rounds (parts_in st) run
 
 -- nothing is said, and nothing changes
 abbrev pub says_nothing : State → Answered State

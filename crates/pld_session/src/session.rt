@@ -1,22 +1,23 @@
 //! What a session holds, and its answers to statements.
 
-ghost use Rattle.std.specs.Prelude.{◌≡◌, ◌≤◌, ◌^◌, ◌+◌, ◌<◌, [], ℕ, true, false, length, IfOk, OnErr, OnOk};
+ghost use Rattle.std.specs.Prelude.{◌≡◌, ◌≤◌, ◌^◌, ◌+◌, ◌<◌, [], ℕ, List, Some, None, true, false, length, IfOk, OnErr, OnOk};
 ghost use Rattle.pld_session.specs.Replies.{bad_line_reply};
 ghost use Rattle.pld_session.specs.States.{State, at_first};
-ghost use Rattle.pld_session.specs.Answers.{answer_to, refuses, accepts, accepts_if, adds, may_input as may_input_of, may_output as may_output_of, may_feed as may_feed_of, is_first_in as is_first_in_of, is_first_out as is_first_out_of, differs as differs_from, is_name as is_name_of, builds, runs, parts_in, Fits, answer};
+ghost use Rattle.pld_session.specs.Answers.{answer_to, refuses, accepts, accepts_if, adds, adds_found, may_input as may_input_of, may_output as may_output_of, may_feed as may_feed_of, is_first_in as is_first_in_of, is_first_out as is_first_out_of, differs as differs_from, is_name as is_name_of, builds, runs, parts_in, Fits, FitsParts, answer};
+ghost use Rattle.feed_run.specs.Runs.{end_after, written_after};
 ghost use Rattle.pld_session.specs.Steps.{Tells};
-ghost use Rattle.pld_ast.specs.Straight.{IsStraight};
 ghost use Rattle.rv_back.specs.Form.{soft_form};
 ghost use Rattle.pld_driver.specs.Moments.{Took, Broke};
 ghost use Rattle.pld_script.specs.Statements.{Placed};
 
 use crate::reply::{put_bad_line, put_built, put_ok, put_run};
-use feed_run::run_on;
-use pld_ast::Operator;
+use feed_run::{Run, run_on, runs_write_the_stream};
+use pld_ast::{Operator, operators_are_processes};
 use pld_base::{End, Kind, Name, NoMemory, Permits, Side};
+use pld_check::Checked;
 use pld_driver::{Bench, Engine};
 use pld_script::{Statement, Text, WordList};
-use rv_back::{Image, compile_soft};
+use rv_back::{Image, code_keeps_the_meaning, compile_soft};
 use small_form::read_form;
 use std::alloc::Global;
 use std::marker::Model;
@@ -28,7 +29,7 @@ const FEED_WORDS: usize = 65536;
 #[derive(Drop)]
 pub struct Added {
     pub name: Name,
-    pub operator: Operator,
+    pub operator: Checked,
 }
 
 /// What a run leaves: how many moves it made (steps of the softcore, and port operations).
@@ -51,8 +52,7 @@ pub struct Session {
 
 impl Model for Session {
     ghost use Rattle.std.specs.Prelude.{◌≤◌, IfSome, length};
-    ghost use Rattle.small_form.specs.Form.{IsSmall};
-    ghost use Rattle.pld_session.specs.States.{State};
+    ghost use Rattle.pld_session.specs.States.{State, IsImageOf};
 
     ghost Value = { State };
 
@@ -64,7 +64,7 @@ impl Model for Session {
 
     ghost view = { λ s. record { rounds = s.rounds; operator = s.operator; input = s.input; output = s.output; feed = s.feed; image = s.image; ran = s.ran } };
 
-    ghost invariant = { λ s. (s.rounds ≤ 1000000) × IfSome s.operator (λ added. IsSmall added.operator) × IfSome s.image (λ image. length image.code ≤ 12005) };
+    ghost invariant = { λ s. (s.rounds ≤ 1000000) × IfSome s.image (λ image. (length image.code ≤ 12005) × IsImageOf s.operator image) };
 }
 
 impl Session {
@@ -105,6 +105,24 @@ impl Session {
             return refuse(number, reply);
         }
         match read_form(alloc, text.as_slice())? {
+            None => refuse(number, reply),
+            Some(operator) => self.add_sound(number, name, operator, reply),
+        }
+    }
+
+    /// Adds the operator, if its names are known and it is within the limits.
+    fn add_sound(
+        &mut self,
+        number: u64,
+        name: Name,
+        operator: Operator,
+        reply: &mut Vec<u8>,
+    ) -> Result<bool, NoMemory>
+        requires none { self.old.operator ≡ None }
+        requires empty { reply.old.items ≡ [] }
+        ensures { IfOk result (λ refused. Tells (adds_found self.old number name (Some operator)) reply.new.items refused self.new) }
+    {
+        match Checked::of(operator) {
             None => refuse(number, reply),
             Some(operator) => {
                 put_ok(reply)?;
@@ -279,7 +297,7 @@ impl Session {
         }
         match (&self.operator, &self.output, &self.feed, &self.image) {
             (Some(added), Some(output), Some(feed), Some(image)) => {
-                let run = run_on(alloc, image, feed.as_slice(), 256 * self.rounds)?;
+                let run = run_image(alloc, self.rounds, &added.operator, image, feed.as_slice())?;
                 put_run(
                     reply,
                     &added.name,
@@ -297,10 +315,30 @@ impl Session {
     }
 }
 
+/// Runs the image of an operator on a feed, for so many rounds.
+fn run_image(
+    alloc: Global,
+    rounds: u64,
+    operator: &Checked,
+    image: &Image,
+    feed: &[u32],
+) -> Result<Run, NoMemory>
+    requires rounds { rounds ≤ 1000000 }
+    requires short { length image.now.code ≤ 12005 }
+    requires built { image.now ≡ soft_form operator.now }
+    ensures fits { IfOk result (λ run. (name output : List ℕ) → FitsParts rounds (record { name = name; operator = operator.now; output = output; feed = feed.now; image = image.now }) (record { moves = run.moves })) }
+    ensures end { IfOk result (λ run. run.end ≡ end_after image.now feed.now run.moves) }
+    ensures written { IfOk result (λ run. run.written.items ≡ written_after image.now feed.now run.moves) }
+{
+    code_keeps_the_meaning();
+    runs_write_the_stream();
+    operators_are_processes(operator.operator());
+    run_on(alloc, image, feed, 256 * rounds)
+}
+
 /// Compiles an operator with one permit of these.
-fn compile(alloc: Global, permits: &mut Permits, operator: &Operator) -> Result<Image, NoMemory>
-    requires room { permits.old + 64 < 2 ^ 64 }
-    requires straight { IsStraight operator.now }
+fn compile(alloc: Global, permits: &mut Permits, operator: &Checked) -> Result<Image, NoMemory>
+    requires { permits.old + 64 < 2 ^ 64 }
     ensures image { IfOk result (λ image. image ≡ soft_form operator.now) }
     ensures short { IfOk result (λ image. length image.code ≤ 12005) }
     ensures ok { OnOk result (permits.new ≡ permits.old + 1) }
