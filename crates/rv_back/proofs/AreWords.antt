@@ -51,9 +51,6 @@ signed_shift_word : (a b : ℕ) → a < 2 ^ 32 → shifted_right_signed a b < 2 
 signed_shift_word a b h =
     if_word (nat_lt a (2 ^ 31)) _ _ (shifted_word a b h) (let d = (2 ^ 32 - 1 - a) / 2 ^ (b % 32) in let k : 2 ^ 32 - 1 - d < 2 ^ 32 = omega arith in k)
 
-size_word : (a : ℕ) → a < 2 ^ 32 → 0 < a → size_of a < 2 ^ 32
-size_word a h p = if_word (nat_lt a (2 ^ 31)) _ _ h (omega arith)
-
 size_small : (a : ℕ) → a < 2 ^ 32 → size_of a < 2 ^ 32
 size_small a h = small (nat_lt a (2 ^ 31)) refl
   where

@@ -57,6 +57,11 @@ module _ (code : Code) (ins outs : ℕ) where
   event_told : (s : Page) (before : List Event) (x : Event) (t : Trace) → ToldBy s (before ++ x ∷ []) t → ToldBy s before (goes_on_after x t)
   event_told s before x t told = record { events = told.events ∙ append_assoc before (x ∷ []) t.events; end = told.end }
 
+  -- the words to read, told in another way
+  words_told : (n : ℕ) (m : Machine) (left same : Inputs) (events : List Event) → left ≡ same → ToldBy (page_after code ins outs n (on m left events)) events (run (soft_next code ins outs) n m left)
+      → ToldBy (page_after code ins outs n (on m left events)) events (run (soft_next code ins outs) n m same)
+  words_told n m left same events e told = subst (λ x. ToldBy (page_after code ins outs n (on m left events)) events (run (soft_next code ins outs) n m x)) e told
+
   -- with one move and what follows it
   move_told : (n : ℕ) (s : Step) (m : Machine) (left : Inputs) (events : List Event) → soft_step code ins outs m ≡ s → ((m1 : Machine) (left1 : Inputs) (events1 : List Event) → ToldBy (page_after code ins outs n (on m1 left1 events1)) events1 (run (soft_next code ins outs) n m1 left1)) → ToldBy (page_after code ins outs n (moved s (on m left events))) events (goes_on (move_of s m) left (run (soft_next code ins outs) n))
   move_told n (Went m1) m left events e rest = rest m1 left events
@@ -66,8 +71,8 @@ module _ (code : Code) (ins outs : ℕ) where
       at_list [] l =
           stays_told n (on m left events) events _ (ap (λ x. moved x (on m left events)) e ∙ ap (λ x. take_word p rd x (on m left events)) l) (record { events = sym (append-nil events); end = ap (λ x. end_of (stands x (on m left events))) e ∙ ap (λ x. end_of (standing_at p x)) l })
       at_list (w ∷ ws) l =
-          let after : ToldBy (page_after code ins outs n (on (resumed m rd w) (with left p ws) (events ++ Read (port p) w ∷ []))) (events ++ Read (port p) w ∷ []) (run (soft_next code ins outs) n (resumed m rd w) (past_first p left)) = subst (λ x. ToldBy (page_after code ins outs n (on (resumed m rd w) (with left p ws) (events ++ Read (port p) w ∷ []))) (events ++ Read (port p) w ∷ []) (run (soft_next code ins outs) n (resumed m rd w) x)) (left_past p w ws left l) (rest (resumed m rd w) (with left p ws) (events ++ Read (port p) w ∷ [])) in
-          event_told _ events (Read (port p) w) (run (soft_next code ins outs) n (resumed m rd w) (past_first p left)) after
+          let word = Read (port p) w in
+          event_told _ events word (run (soft_next code ins outs) n (resumed m rd w) (past_first p left)) (words_told n (resumed m rd w) (with left p ws) (past_first p left) (events ++ word ∷ []) (left_past p w ws left l) (rest (resumed m rd w) (with left p ws) (events ++ word ∷ [])))
   move_told n (AtWrite p w) m left events e rest =
       event_told _ events (Write (port p) w) (run (soft_next code ins outs) n (next m) left) (rest (next m) left (events ++ Write (port p) w ∷ []))
   move_told n Ended m left events e rest =
