@@ -1,5 +1,5 @@
 -- The record of a run fits.
-use Rattle.std.proofs.Common.{◌≡◌, ◌≢◌, ℕ, ◌*◌, List, All, ap, ◌∙◌, sym, subst}
+use Rattle.std.proofs.Common.{◌≡◌, ℕ, ◌+◌, List, [], ◌∷◌, ◌++◌, All, Option, Some, None, Bool, true, false, if◌then◌else◌, refl, sym, ap, subst, ◌∙◌, arith}
 use Rattle.std.specs.Prelude.{Result, Ok, Err, IfOk}
 use Rattle.pld_base.specs.Words.{IsWord}
 use Rattle.pld_base.specs.Process.{Process, IsProcess}
@@ -16,7 +16,12 @@ use Rattle.rv_back.specs.Form.{SoftForm, soft_form}
 use Rattle.feed_run.specs.Runs.{IsRun, end_after, written_after}
 use Rattle.feed_run.specs.Streams.{alone, its_output}
 use Rattle.feed_run.specs.declared.run.RunEnd.TheVariants.{Spent}
-use Rattle.pld_session.specs.Answers.{Parts, steps_of, FitsParts}
+use Rattle.pld_driver.specs.Moments.{Took}
+use Rattle.pld_driver.specs.declared.engine.Bench.{Bench}
+use Rattle.pld_session.specs.declared.session.Added.{Added}
+use Rattle.pld_session.specs.declared.session.Record.{Record}
+use Rattle.pld_session.specs.States.{State}
+use Rattle.pld_session.specs.Answers.{Parts, parts_of, parts_in, steps_of, ran_reply, runs, Fits, FitsIn, FitsParts}
 
 abbrev pub Begins : Type 0
 Begins = (image : SoftForm) (operator : Process) (feed : List ℕ) (moves : ℕ) → Realises (soft_process image.code image.ins image.outs) operator → All IsWord feed
@@ -45,3 +50,27 @@ fits rounds parts moves begins whole keeps laws sound built words run = record {
 pub on_answer : {A E : Type 0} {P Q : A → Type 0} (r : Result A E) → ((x : A) → P x → Q x) → IfOk r P → IfOk r Q
 on_answer (Ok x) f h = f x h
 on_answer (Err e) f h = tt
+
+-- all parts of a run are there
+pub parts_are : (st : State) (added : Added) (output feed : List ℕ) (image : SoftForm) → st.ran ≡ false → st.operator ≡ Some added → st.output ≡ Some output → st.feed ≡ Some feed → st.image ≡ Some image
+    → parts_in st ≡ Some (record { name = added.name; operator = added.operator; output = output; feed = feed; image = image })
+parts_are st added output feed image ran e0 e1 e2 e3 =
+    ap (λ b. if b then None else parts_of st.operator st.output st.feed st.image) ran
+    ∙ ap (λ x. parts_of x st.output st.feed st.image) e0
+    ∙ ap (λ x. parts_of (Some added) x st.feed st.image) e1
+    ∙ ap (λ x. parts_of (Some added) (Some output) x st.image) e2
+    ∙ ap (λ x. parts_of (Some added) (Some output) (Some feed) x) e3
+
+-- a run was made, and its record left
+pub took : (st : State) (number : ℕ) (parts : Parts) (run : Record) (old new : Bench Record) (reply : List ℕ) (next : State) → parts_in st ≡ Some parts → FitsParts st.rounds parts run
+    → new.records.items ≡ old.records.items ++ run ∷ [] → new.permits ≡ old.permits → reply ≡ ran_reply st.rounds parts run.moves → next ≡ record st { ran = true }
+    → Took (runs st number (parts_in st)) (Fits st) old new reply false next
+took st number parts run old new reply next e fit records permits said state =
+    subst (λ p. Took (runs st number p) (FitsIn st.rounds p) old new reply false next) (sym e) (run, record { fit = fit; last = records }, record { says = said; flag = refl; state = state; spent = omega (arith, permits) })
+
+-- the same rounds and feed, as they were handed on
+pub fits_as : (rounds rounds' : ℕ) (name : List ℕ) (operator : Operator) (output feed feed' : List ℕ) (image : SoftForm) (run : Record) → rounds ≡ rounds' → feed ≡ feed'
+    → FitsParts rounds (record { name = name; operator = operator; output = output; feed = feed; image = image }) run
+    → FitsParts rounds' (record { name = name; operator = operator; output = output; feed = feed'; image = image }) run
+fits_as rounds rounds' name operator output feed feed' image run e e' h =
+    subst (λ r. FitsParts r (record { name = name; operator = operator; output = output; feed = feed'; image = image }) run) e (subst (λ f. FitsParts rounds (record { name = name; operator = operator; output = output; feed = f; image = image }) run) e' h)

@@ -1,9 +1,10 @@
 //! What a session holds, and its answers to statements.
 
-ghost use Rattle.std.specs.Prelude.{◌≡◌, ◌≤◌, ◌^◌, ◌+◌, ◌<◌, [], ℕ, List, Some, None, true, false, length, IfOk, OnErr, OnOk};
+ghost use Rattle.std.specs.Prelude.{◌≡◌, ◌≤◌, ◌^◌, ◌+◌, ◌<◌, [], ℕ, List, Some, None, true, false, All, length, IfOk, OnErr, OnOk};
 ghost use Rattle.pld_session.specs.Replies.{bad_line_reply};
 ghost use Rattle.pld_session.specs.States.{State, at_first};
 ghost use Rattle.pld_session.specs.Answers.{answer_to, refuses, accepts, accepts_if, adds, adds_found, may_input as may_input_of, may_output as may_output_of, may_feed as may_feed_of, is_first_in as is_first_in_of, is_first_out as is_first_out_of, differs as differs_from, is_name as is_name_of, builds, runs, parts_in, Fits, FitsParts, answer};
+ghost use Rattle.pld_base.specs.Words.{IsWord};
 ghost use Rattle.feed_run.specs.Runs.{end_after, written_after};
 ghost use Rattle.pld_session.specs.Steps.{Tells};
 ghost use Rattle.rv_back.specs.Form.{soft_form};
@@ -333,7 +334,15 @@ fn run_image(
     code_keeps_the_meaning();
     runs_write_the_stream();
     operators_are_processes(operator.operator());
+    are_words(feed);
     run_on(alloc, image, feed, 256 * rounds)
+}
+
+/// Each number of a feed is a word.
+fn are_words(feed: &[u32])
+    ensures { All IsWord feed.now }
+{
+    let _ = feed;
 }
 
 /// Compiles an operator with one permit of these.
