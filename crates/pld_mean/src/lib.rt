@@ -9,3 +9,6 @@ mod vars;
 
 pub use run::{CRun, run_c};
 pub use vars::CEnd;
+
+#[cfg(test)]
+mod tests;
