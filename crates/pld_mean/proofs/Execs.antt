@@ -1,8 +1,9 @@
 -- What statements do, by what their parts do.
-use Rattle.std.proofs.Common.{◌≡◌, ℕ, zero, suc, ◌<◌, ◌≤◌, ◌%◌, List, ◌∷◌, length, map, refl, sym, ap, ◌∙◌, subst}
+use Rattle.std.proofs.Common.{◌≡◌, ℕ, zero, suc, ◌<◌, ◌≤◌, ◌%◌, List, ◌∷◌, length, map, refl, sym, ap, ◌∙◌, subst, []}
 use Rattle.std.specs.Prelude.{slice_index}
 use Rattle.std.proofs.lemmas.List.{length-map}
 use Rattle.pld_base.specs.Lists.{port}
+use Rattle.pld_base.specs.Process.{Starved}
 use Rattle.pld_base.specs.declared.event.Event.TheVariants.{Read as ReadEvent}
 use Rattle.pld_ast.specs.declared.tree.Array.{Array}
 use Rattle.pld_ast.specs.declared.tree.Used.{Used}
@@ -10,7 +11,7 @@ use Rattle.pld_ast.specs.declared.tree.Expr.{Expr}
 use Rattle.pld_ast.specs.declared.tree.Target.{Target}
 use Rattle.pld_ast.specs.declared.tree.Target.TheVariants as target
 use Rattle.pld_ast.specs.declared.tree.Operator.{Operator}
-use Rattle.pld_ast.specs.Meaning.{State, Goes, value_of, at_zero, and_event, take_word, meaning}
+use Rattle.pld_ast.specs.Meaning.{State, Outcome, Goes, Over, value_of, at_zero, and_event, take_word, meaning}
 use Rattle.pld_ast.specs.Resolve.{array_no, place_in, value_in, declared_in, program_of, assigned, read_to}
 use Rattle.pld_ast.specs.Sound.{IsKnownValue, IsKnown}
 use Rattle.pld_check.specs.Known.{IsKnownTarget, AreFilled}
@@ -80,3 +81,12 @@ module _ (op : Operator) where
       let at_spot = spot_of (declared_in op) (program_of op).lengths to st in
       let took = taken (subst (λ s. p < s.ins) (sym at.sized) known.1) in
       ap Goes (put_at sizes to st spot at known.0 st' st'' w f ∙ ap (λ s. set_spot s at_spot w) took.2) ∙ ap (λ xs. take_word p xs st (λ v next. Goes (set_spot next at_spot v))) (sym took.1) ∙ sym (read_means to p n st)
+
+  pub did_starve : (sizes : Sizes) (to : Target) (p : ℕ) (st st' : State) (n : ℕ) → sizes ≡ sizes_in (program_of op) → (p < sizes.ins → (st' ≡ st) × (st.left p ≡ [])) → IsKnown (program_of op) (read_to (declared_in op) to p) → Over (Starved p) st'.events ≡ meaning (program_of op).lengths (read_to (declared_in op) to p) n st
+  did_starve sizes to p st st' n sized taken k =
+      let took = taken (subst (λ s. p < s.ins) (sym sized) (known_read to p k).1) in
+      let at_spot = spot_of (declared_in op) (program_of op).lengths to st in
+      ap (λ s. Over (Starved p) s.events) took.0 ∙ ap (λ xs. take_word p xs st (λ v next. Goes (set_spot next at_spot v))) (sym took.1) ∙ sym (read_means to p n st)
+
+  pub at_port : (to : Target) (p q n : ℕ) (st : State) (o : Outcome) → p ≡ q → (IsKnown (program_of op) (read_to (declared_in op) to p) → o ≡ meaning (program_of op).lengths (read_to (declared_in op) to p) n st) → IsKnown (program_of op) (read_to (declared_in op) to q) → o ≡ meaning (program_of op).lengths (read_to (declared_in op) to q) n st
+  at_port to p q n st o e h = subst (λ x. IsKnown (program_of op) (read_to (declared_in op) to x) → o ≡ meaning (program_of op).lengths (read_to (declared_in op) to x) n st) e h

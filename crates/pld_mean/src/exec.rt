@@ -3,13 +3,12 @@
 ghost use Rattle.std.specs.Prelude.{◌≡◌, ◌<◌, ◌≤◌, ℕ, List, map, IfOk, OnOk};
 ghost use Rattle.pld_ast.specs.Program.{Write as write_of};
 ghost use Rattle.pld_ast.specs.Meaning.{Goes, value_of, turns as turns_of};
-ghost use Rattle.pld_ast.specs.Resolve.{value_in, action_in, block_in, declared_in, program_of, assigned, read_to};
+ghost use Rattle.pld_ast.specs.Resolve.{value_in, action_in, block_in, declared_in, program_of, assigned, read_to, place_in};
 ghost use Rattle.pld_ast.specs.Sound.{IsSound, IsKnownValue};
 ghost use Rattle.pld_check.specs.Known.{IsKnownTarget};
 ghost use Rattle.pld_mean.specs.Vars.{state_of, sizes_of, sizes_in, IsSpot};
 ghost use Rattle.pld_mean.specs.Targets.{spot_of};
 ghost use Rattle.pld_mean.specs.Run.{outcome_of, Does};
-ghost use Rattle.pld_mean.specs.declared.vars.Flow.TheVariants.{Goes as goes_on};
 
 use crate::eval::{eval, index_at};
 use crate::vars::{CEnd, Flow, Spot, Vars};
@@ -33,31 +32,32 @@ fn spot(op: &Operator, vars: &Vars, to: &Target) -> Spot
 }
 
 // An assignment.
-fn assign(op: &Operator, vars: &mut Vars, to: &Target, e: &Expr)
+fn assign(op: &Operator, vars: &mut Vars, to: &Target, e: &Expr) -> Flow
     requires sound { IsSound (program_of op.now) }
     requires sized { sizes_of vars.old ≡ sizes_in (program_of op.now) }
-    ensures does { (ins : List (List ℕ)) (n : ℕ) → Does (program_of op.now) ins n (assigned (declared_in op.now) to.now e.now) vars.old goes_on vars.new }
+    ensures does { (ins : List (List ℕ)) (n : ℕ) → Does (program_of op.now) ins n (assigned (declared_in op.now) to.now e.now) vars.old result vars.new }
     ensures sizes { sizes_of vars.new ≡ sizes_of vars.old }
 {
     let spot = spot(op, vars, to);
     let v = eval(op, vars, e);
     vars.put(spot, v);
+    Flow::Goes
 }
 
-// A read of the in-port with this number.
+// A read of the in-port with this name.
 fn read(
     op: &Operator,
     ins: &[Vec<u32>],
     vars: &mut Vars,
     to: &Target,
-    p: usize,
+    port: &Name,
 ) -> Result<Flow, NoMemory>
     requires sound { IsSound (program_of op.now) }
     requires sized { sizes_of vars.old ≡ sizes_in (program_of op.now) }
-    requires port { p ≤ (program_of op.now).ins }
-    ensures does { (n : ℕ) → IfOk result (λ flow. Does (program_of op.now) (map (λ v. v.items) ins.now) n (read_to (declared_in op.now) to.now p) vars.old flow vars.new) }
+    ensures does { (n : ℕ) → IfOk result (λ flow. Does (program_of op.now) (map (λ v. v.items) ins.now) n (read_to (declared_in op.now) to.now (place_in (declared_in op.now).ins port.now)) vars.old flow vars.new) }
     ensures sizes { OnOk result (sizes_of vars.new ≡ sizes_of vars.old) }
 {
+    let p = in_place(op.ports.as_slice(), port);
     let spot = spot(op, vars, to);
     let taken = vars.take(ins, p)?;
     match taken {
@@ -69,13 +69,13 @@ fn read(
     }
 }
 
-// A write to the out-port with this number.
-fn write(op: &Operator, vars: &mut Vars, p: usize, e: &Expr) -> Result<Flow, NoMemory>
+// A write to the out-port with this name.
+fn write(op: &Operator, vars: &mut Vars, port: &Name, e: &Expr) -> Result<Flow, NoMemory>
     requires sound { IsSound (program_of op.now) }
-    requires port { p ≤ (program_of op.now).outs }
-    ensures does { (ins : List (List ℕ)) (n : ℕ) → IfOk result (λ flow. Does (program_of op.now) ins n (write_of p (value_in (declared_in op.now) e.now)) vars.old flow vars.new) }
+    ensures does { (ins : List (List ℕ)) (n : ℕ) → IfOk result (λ flow. Does (program_of op.now) ins n (write_of (place_in (declared_in op.now).outs port.now) (value_in (declared_in op.now) e.now)) vars.old flow vars.new) }
     ensures sizes { OnOk result (sizes_of vars.new ≡ sizes_of vars.old) }
 {
+    let p = out_place(op.ports.as_slice(), port);
     let v = eval(op, vars, e);
     vars.note(Event::Write(PortNo(p as u8), v))?;
     Ok(Flow::Goes)
@@ -108,18 +108,9 @@ fn statement(
     ensures sizes { OnOk result (sizes_of vars.new ≡ sizes_of vars.old) }
 {
     match s {
-        Stmt::Assign(to, e) => {
-            assign(op, vars, to, e);
-            Ok(Flow::Goes)
-        }
-        Stmt::Read(to, port) => {
-            let p = in_place(op.ports.as_slice(), &port.name);
-            read(op, ins, vars, to, p)
-        }
-        Stmt::Write(port, e) => {
-            let p = out_place(op.ports.as_slice(), &port.name);
-            write(op, vars, p, e)
-        }
+        Stmt::Assign(to, e) => Ok(assign(op, vars, to, e)),
+        Stmt::Read(to, port) => read(op, ins, vars, to, &port.name),
+        Stmt::Write(port, e) => write(op, vars, &port.name, e),
         Stmt::If(e, a, b) => {
             if eval(op, vars, e) == 0 {
                 block(op, ins, turns, vars, b.as_slice())

@@ -1,7 +1,5 @@
-use Rattle.std.proofs.Common.{List, ℕ, map, refl, sym, ap, ◌∙◌}
-use Rattle.pld_base.specs.declared.event.Side.TheVariants.{In, Out}
-use Rattle.pld_ast.specs.Program.{Write as write_to}
-use Rattle.pld_ast.specs.Resolve.{declared_in, program_of, block_in, action_in, value_in, read_to, place_in, ports_at}
+use Rattle.std.proofs.Common.{List, ℕ, map, refl, ap, ◌∙◌}
+use Rattle.pld_ast.specs.Resolve.{declared_in, program_of, block_in, action_in}
 use Rattle.pld_mean.specs.Vars.{state_of}
 use Rattle.pld_mean.specs.Run.{end_of, outcome_of}
 use Rattle.pld_mean.proofs.Blocks.{none_turned, while_none, while_over, while_on, while_ended, if_none, if_some, on_ok, over_at, goes_at, did_same}
@@ -46,7 +44,7 @@ statement-loop-turn-preserved t c =
 pub statement-returns-then-eval-eq0-clause-does : goal.statement-returns-then-eval-eq0-clause-does
 statement-returns-then-eval-eq0-clause-does t c =
     let lists : List (List ℕ) = map (λ v. v.items) c.args.ins.now in
-    on_ok _ c.block.ensures.does (λ flow h. if_none (program_of c.args.op.now) (declared_in c.args.op.now) c.args.turns c.args.s.now _ _ _ _ (state_of lists c.args.vars.now) _ (outcome_of flow (state_of lists c.block.new.vars)) c.in-If.is c.as_slice-then-eval-eq0.ensures (c.eval.ensures lists) c.if-eval-eq0.true h)
+    on_ok _ c.block.ensures.does (λ flow h. if_none (program_of c.args.op.now) (declared_in c.args.op.now) c.args.turns c.args.s.now _ _ _ _ (state_of lists c.args.vars.now) _ (outcome_of flow (state_of lists c.block.new.vars)) c.in-If.is c.as_slice.ensures (c.eval.ensures lists) c.if-eval-eq0.true h)
 
 pub statement-returns-else-eval-eq0-clause-does : goal.statement-returns-else-eval-eq0-clause-does
 statement-returns-else-eval-eq0-clause-does t c =
@@ -60,12 +58,9 @@ statement-returns-after-loop-turn-clause-does t c =
 
 pub statement-returns-in-Read-clause-does : goal.statement-returns-in-Read-clause-does
 statement-returns-in-Read-clause-does t c =
-    let lists : List (List ℕ) = map (λ v. v.items) c.args.ins.now in
-    let d = declared_in c.args.op.now in
-    did_same (program_of c.args.op.now) lists c.args.turns _ _ c.args.vars.now c.read.new.vars c.read.result (ap (action_in d) c.in-Read.is ∙ ap (read_to d c.in-Read.to) (sym (c.in_place-p.ensures.value ∙ ap (λ ports. place_in (ports_at In ports) c.in-Read.port.name) c.as_slice.ensures))) (c.read.ensures.does c.args.turns)
+    did_same (program_of c.args.op.now) (map (λ v. v.items) c.args.ins.now) c.args.turns _ _ c.args.vars.now c.read.new.vars c.read.result (ap (action_in (declared_in c.args.op.now)) c.in-Read.is) (c.read.ensures.does c.args.turns)
 
 pub statement-returns-in-Write-clause-does : goal.statement-returns-in-Write-clause-does
 statement-returns-in-Write-clause-does t c =
     let lists : List (List ℕ) = map (λ v. v.items) c.args.ins.now in
-    let d = declared_in c.args.op.now in
-    did_same (program_of c.args.op.now) lists c.args.turns _ _ c.args.vars.now c.write.new.vars c.write.result (ap (action_in d) c.in-Write.is ∙ ap (λ p. write_to p (value_in d c.in-Write.e)) (sym (c.out_place-p.ensures.value ∙ ap (λ ports. place_in (ports_at Out ports) c.in-Write.port.name) c.as_slice-in-Write.ensures))) (c.write.ensures.does lists c.args.turns)
+    did_same (program_of c.args.op.now) lists c.args.turns _ _ c.args.vars.now c.write.new.vars c.write.result (ap (action_in (declared_in c.args.op.now)) c.in-Write.is) (c.write.ensures.does lists c.args.turns)
