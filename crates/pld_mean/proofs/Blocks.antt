@@ -1,6 +1,5 @@
 -- What lists of statements, choices and loops do, by what their parts do.
-use Rattle.std.proofs.Common.{◌≡◌, ℕ, zero, suc, ◌+◌, ◌-◌, ◌<◌, ◌≤◌, List, ◌∷◌, length, get_or, drop, refl, sym, ap, ◌∙◌, subst, arith}
-use Rattle.std.proofs.lemmas.List.{drop_more, drop_all}
+use Rattle.std.proofs.Common.{◌≡◌, ℕ, zero, suc, ◌+◌, ◌-◌, ◌<◌, ◌≤◌, List, drop, sym, ap, ◌∙◌, subst, arith}
 use Rattle.pld_base.specs.Process.{TraceEnd}
 use Rattle.pld_base.specs.declared.event.Event.{Event}
 use Rattle.pld_ast.specs.declared.tree.Expr.{Expr}
@@ -48,31 +47,6 @@ module _ (g : Program) (d : Names) (n : ℕ) where
   -- the first statements are done, and the others are left
   abbrev pub Done : List Stmt → ℕ → State → State → Type 0
   Done body i first st = IsKnown g (block_in d body) → IsKnown g (block_in d (drop i body)) × (meaning g.lengths (block_in d (drop i body)) n st ≡ meaning g.lengths (block_in d body) n first)
-
-  pub none_done : (body : List Stmt) (st : State) → Done body 0 st st
-  none_done body st k = (k, refl)
-
-  next_known : (body : List Stmt) (i : ℕ) (s : Stmt) → i < length body → s ≡ get_or body i s → drop i body ≡ s ∷ drop (i + 1) body
-  next_known body i s lt is = drop_more body i s lt ∙ ap (λ x. x ∷ drop (i + 1) body) (sym is)
-
-  one_more : (body : List Stmt) (i : ℕ) (s : Stmt) (first st : State) → i < length body → s ≡ get_or body i s → Done body i first st → IsKnown g (block_in d body) → (IsKnown g (action_in d s) × IsKnown g (block_in d (drop (i + 1) body))) × (then_do (meaning g.lengths (action_in d s) n st) (meaning g.lengths (block_in d (drop (i + 1) body)) n) ≡ meaning g.lengths (block_in d body) n first)
-  one_more body i s first st lt is done k =
-      let parts = next_known body i s lt is in
-      (subst (λ x. IsKnown g (block_in d x)) parts (done k).0, ap (λ x. meaning g.lengths (block_in d x) n st) (sym parts) ∙ (done k).1)
-
-  pub block_over : (body : List Stmt) (i : ℕ) (s : Stmt) (first st : State) (end : TraceEnd) (events : List Event) → i < length body → s ≡ get_or body i s → Done body i first st → Means (action_in d s) st (Over end events) → Means (block_in d body) first (Over end events)
-  block_over body i s first st end events lt is done h k =
-      let more = one_more body i s first st lt is done k in
-      ap (λ o. then_do o (meaning g.lengths (block_in d (drop (i + 1) body)) n)) (h more.0.0) ∙ more.1
-
-  pub block_on : (body : List Stmt) (i : ℕ) (s : Stmt) (first st st' : State) → i < length body → s ≡ get_or body i s → Done body i first st → Means (action_in d s) st (Goes st') → Done body (i + 1) first st'
-  block_on body i s first st st' lt is done h k =
-      let more = one_more body i s first st lt is done k in
-      (more.0.1, ap (λ o. then_do o (meaning g.lengths (block_in d (drop (i + 1) body)) n)) (h more.0.0) ∙ more.1)
-
-  pub block_ended : (body : List Stmt) (i : ℕ) (first st : State) → length body ≤ i → Done body i first st → Means (block_in d body) first (Goes st)
-  block_ended body i first st le done k =
-      ap (λ x. meaning g.lengths (block_in d x) n st) (sym (drop_all i body le)) ∙ (done k).1
 
   -- a choice
 
