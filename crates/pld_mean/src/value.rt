@@ -8,18 +8,21 @@ ghost use Rattle.pld_mean.specs.Ops.{one_of};
 use pld_ast::{BinOp, Ty, UnOp};
 use pld_base::words;
 
+// 1 where it is 0, and else 0.
 fn zero(a: u32) -> u32
     ensures { result ≡ is_zero a }
 {
     if a == 0 { 1 } else { 0 }
 }
 
+// 0 where it is 0, and else 1.
 fn other(a: u32) -> u32
     ensures { result ≡ is_other a }
 {
     if a == 0 { 0 } else { 1 }
 }
 
+// 1 where a is below b, as signed words where both have a sign.
 fn less(s: Ty, t: Ty, a: u32, b: u32) -> u32
     ensures { result ≡ binary_of (op2_of BinOp.Lt s t) a b }
 {
@@ -32,6 +35,7 @@ fn less(s: Ty, t: Ty, a: u32, b: u32) -> u32
     }
 }
 
+// A quotient, of signed words where both have a sign.
 fn quotient(s: Ty, t: Ty, a: u32, b: u32) -> u32
     ensures { result ≡ binary_of (op2_of BinOp.Div s t) a b }
 {
@@ -44,6 +48,7 @@ fn quotient(s: Ty, t: Ty, a: u32, b: u32) -> u32
     }
 }
 
+// A remainder, of signed words where both have a sign.
 fn remainder(s: Ty, t: Ty, a: u32, b: u32) -> u32
     ensures { result ≡ binary_of (op2_of BinOp.Rem s t) a b }
 {
