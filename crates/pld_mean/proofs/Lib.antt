@@ -1,0 +1,5 @@
+pub mod Blocks
+pub mod Evals
+pub mod Execs
+pub mod Runs
+pub mod States

@@ -1,0 +1,4 @@
+pub mod Ops
+pub mod Vars
+pub mod Targets
+pub mod Run
