@@ -27,11 +27,7 @@ fn append_one<R: Wait>(
 
 /// Adds the seat's entries with the counts from 0 to 99, each in a hold of its own, and ends early where there is no memory.
 /// Says how many were added.
-pub fn append_hundred<R: Wait>(
-    rt: &R,
-    lock: &FabricLock<Log>,
-    seat: Seat<Log>,
-) -> (Seat<Log>, u16)
+pub fn append_hundred<R: Wait>(rt: &R, lock: &FabricLock<Log>, seat: Seat<Log>) -> (Seat<Log>, u16)
     requires lock { IsSeatOf lock.now seat }
     ensures lock { IsSeatOf lock.now result.0 }
     ensures counts { (result.0.number ≡ seat.number) × (result.0.spare ≡ seat.spare) × (result.0.gathered ≡ seat.gathered) }
