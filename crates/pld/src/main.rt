@@ -65,4 +65,6 @@ fn main(rt: HostRuntime) -> ExitCode {
 }
 
 #[cfg(test)]
+mod rows;
+#[cfg(test)]
 mod tests;
