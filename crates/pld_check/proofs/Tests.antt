@@ -53,9 +53,10 @@ sound_tells g =
     let names = both (nat_le g.scalars 64) (nat_le (length g.lengths) 16) (most_tells g.scalars 64) (most_tells (length g.lengths) 16) in
     let words = both (are_filled g.lengths) (nat_le (sum g.lengths) 8192) (filled_tells g.lengths) (most_tells (sum g.lengths) 8192) in
     let body = both (nat_le (action_nodes g.body) 1000) (knows g g.body) (most_tells (action_nodes g.body) 1000) (action_tells g g.body) in
-    let all = both _ _ ports (both _ _ names (both _ _ words body)) in
-    (λ k. let r = all.0 k in record { ins = r.0.0; outs = r.0.1; scalars = r.1.0.0; arrays = r.1.0.1; some = r.1.1.0.0; words = r.1.1.0.1; nodes = r.1.1.1.0; known = r.1.1.1.1 },
-    λ h. all.1 ((h.ins, h.outs), ((h.scalars, h.arrays), ((h.some, h.words), (h.nodes, h.known)))))
+    let all = both _ _ ports (both _ _ names (both _ _ words body)) in (
+      λ k. let r = all.0 k in record { ins = r.0.0; outs = r.0.1; scalars = r.1.0.0; arrays = r.1.0.1; some = r.1.1.0.0; words = r.1.1.0.1; nodes = r.1.1.1.0; known = r.1.1.1.1 },
+      λ h. all.1 ((h.ins, h.outs), ((h.scalars, h.arrays), ((h.some, h.words), (h.nodes, h.known)))),
+    )
 
 -- two tests of one thing
 pub same_test : {A : Type 0} (a b : Bool) → Tells a A → Tells b A → a ≡ b

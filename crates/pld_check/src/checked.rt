@@ -117,10 +117,7 @@ fn decide(op: &Operator) -> bool
     ensures { IsTrue result ↔ IsSound (program_of op.now) }
 {
     let room = both(few_ports(op), few_variables(op));
-    let body = both(
-        op.nodes() <= MOST_NODES,
-        are_known(op, op.body.as_slice()),
-    );
+    let body = both(op.nodes() <= MOST_NODES, are_known(op, op.body.as_slice()));
     both(both(room, sized_arrays(op)), body)
 }
 

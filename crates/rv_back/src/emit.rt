@@ -11,7 +11,9 @@ use crate::templates::{
     put, put_aside, put_back, put_const, put_end, put_get, put_load, put_op1, put_op2, put_pop,
     put_push, put_read, put_read_at, put_set, put_store, put_write,
 };
-use pld_ast::{Array, Expr, Operator, Stmt, Target, array_place, in_place, out_place, scalar_place, type_in};
+use pld_ast::{
+    Array, Expr, Operator, Stmt, Target, array_place, in_place, out_place, scalar_place, type_in,
+};
 use pld_base::NoMemory;
 use rv_isa::{Instr, Reg, Shift};
 
