@@ -1,5 +1,5 @@
 -- What a run writes, and the Kahn stream of its output.
-use Rattle.std.proofs.Common.{◌≡◌, ◌≢◌, ℕ, zero, suc, ◌≤◌, List, [], ◌∷◌, ◌++◌, All, refl, sym, ap, subst, ◌∙◌, arith}
+use Rattle.std.proofs.Common.{◌≡◌, ◌≢◌, ℕ, zero, suc, ◌≤◌, List, [], All, refl, sym, ap, subst, ◌∙◌, arith}
 use std.Path.{fun_ext}
 use Rattle.std.proofs.lemmas.List.Elements.{All-nil}
 use Rattle.std.specs.Prelude.{slice_get}
@@ -7,8 +7,8 @@ use Rattle.pld_base.specs.Words.{IsWord}
 use Rattle.pld_base.specs.Prefix.{IsPrefixOf}
 use Rattle.pld_base.specs.Events.{words_written}
 use Rattle.pld_base.specs.Pages.{Standing, Going, Ended as HasEnded, Trapped as HasTrapped, Waits}
-use Rattle.pld_base.specs.Process.{TraceEnd, Returned, Starved, Cut, Trace, Inputs, Process, IsProcess, AreWords}
-use Rattle.pld_base.specs.Channels.{Node, OperatorNode, InputNode, OutputNode, channel_words}
+use Rattle.pld_base.specs.Process.{TraceEnd, Returned, Starved, Cut, Trace, Process, IsProcess, AreWords}
+use Rattle.pld_base.specs.Channels.{OperatorNode, InputNode, channel_words}
 use Rattle.pld_base.proofs.Events.{words_written_grows}
 use Rattle.pld_base.specs.declared.event.Event.{Event}
 use Rattle.pld_kahn.specs.Network.{Network}

@@ -1,8 +1,8 @@
 -- One operator between an input and an output of the host: in-port 0 reads the input, and the output
 -- reads out-port 0.
-use Rattle.std.specs.Prelude.{ℕ, zero, suc, List, [], ◌∷◌, Option, Some, None}
+use Rattle.std.specs.Prelude.{ℕ, zero, suc, List, [], ◌∷◌, Some, None}
 use Rattle.pld_base.specs.Process.{Process}
-use Rattle.pld_base.specs.Channels.{Node, OperatorNode, InputNode, OutputNode, OutPort, Wiring}
+use Rattle.pld_base.specs.Channels.{Node, OperatorNode, InputNode, OutputNode, Wiring}
 use Rattle.pld_kahn.specs.Network.{Network, network_of}
 
 -- the two channels

@@ -6,7 +6,7 @@ use Rattle.std.proofs.lemmas.Bool.{eqb-true}
 use Rattle.pld_base.specs.Lists.{with, port}
 use Rattle.pld_base.specs.declared.event.Event.{Event}
 use Rattle.pld_base.specs.declared.event.Event.TheVariants.{Read as ReadEvent, Write as WriteEvent}
-use Rattle.pld_ast.specs.Program.{Value, Number, Scalar, Element, Op1, Op2, Action, Skip, Then, Assign, Store, Read, ReadInto, Write, Choose, Repeat, Return, Program}
+use Rattle.pld_ast.specs.Program.{Value, Number, Scalar, Element, Op1, Op2, Action, Skip, Then, Assign, Store, Read, ReadInto, Write, Choose, Repeat, Return}
 use Rattle.pld_ast.specs.Meaning.{State, Outcome, Goes, Over, set_scalar, set_element, unary_of, binary_of, index_in, value_of, then_do, at_zero, and_event, take_word, turns, meaning}
 use Rattle.pld_base.specs.Prefix.{IsPrefixOf}
 use Rattle.pld_base.specs.Process.{Returned, Starved, Cut}

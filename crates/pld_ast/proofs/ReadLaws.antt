@@ -6,9 +6,8 @@ use Rattle.std.proofs.lemmas.Bool.{eqb-true}
 use Rattle.std.proofs.Common.{eq-eqb, arith}
 use Rattle.std.proofs.lemmas.Bool.Decides.{nat_tests}
 use Rattle.pld_base.specs.Lists.{with, port}
-use Rattle.pld_base.specs.declared.event.Event.{Event}
-use Rattle.pld_base.specs.declared.event.Event.TheVariants.{Read as ReadEvent, Write as WriteEvent}
-use Rattle.pld_ast.specs.Program.{Value, Action, Skip, Then, Assign, Store, Read, ReadInto, Write, Choose, Repeat, Return}
+use Rattle.pld_base.specs.declared.event.Event.TheVariants.{Read as ReadEvent}
+use Rattle.pld_ast.specs.Program.{Action, Skip, Then, Assign, Store, Read, ReadInto, Write, Choose, Repeat, Return}
 use Rattle.pld_ast.specs.Meaning.{State, Outcome, Goes, Over, set_scalar, set_element, index_in, value_of, then_do, at_zero, take_word, turns, meaning}
 use Rattle.pld_base.specs.Prefix.{IsPrefixOf}
 use Rattle.pld_base.specs.Events.{words_read}

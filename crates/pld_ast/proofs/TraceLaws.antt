@@ -1,17 +1,17 @@
 -- An operator's traces are those of a process with blocking reads.
-use Rattle.std.proofs.Common.{◌≡◌, ◌≢◌, ℕ, ◌≤◌, List, [], ◌∷◌, ◌++◌, ◌⊎◌, inl, inr, refl, sym, ap, subst, ◌∙◌, le_refl, append-nil}
+use Rattle.std.proofs.Common.{◌≡◌, ◌≢◌, ℕ, ◌≤◌, List, [], ◌∷◌, ◌++◌, ◌⊎◌, inl, inr, refl, sym, ap, subst, le_refl, append-nil}
 use std.Path.{fun_ext}
 use Rattle.pld_base.specs.Lists.{port}
 use Rattle.pld_base.specs.Prefix.{IsPrefixOf}
 use Rattle.pld_base.specs.Events.{words_read}
-use Rattle.pld_base.specs.Process.{TraceEnd, Returned, Starved, Cut, Trace, Inputs, IsExtendedBy, StaysOrReads, IsProcess}
-use Rattle.pld_base.proofs.Prefixes.{prefix_refl, prefix_trans, prefix_more, prefix_of_eq}
+use Rattle.pld_base.specs.Process.{Returned, Starved, Cut, Inputs, IsExtendedBy, StaysOrReads, IsProcess}
+use Rattle.pld_base.proofs.Prefixes.{prefix_trans, prefix_more, prefix_of_eq}
 use Rattle.pld_base.specs.declared.event.Event.{Event}
 use Rattle.pld_base.specs.declared.event.Event.TheVariants.{Read as ReadEvent}
 use Rattle.pld_ast.specs.Program.{Program}
-use Rattle.pld_ast.specs.Meaning.{State, Outcome, Goes, Over, meaning, trace_of, start, trace}
-use Rattle.pld_ast.proofs.Grows.{events_of, more, Grows, grows}
-use Rattle.pld_ast.proofs.ReadLaws.{Reads, Whole, first_words, reads}
+use Rattle.pld_ast.specs.Meaning.{Outcome, Goes, Over, meaning, trace_of, start, trace}
+use Rattle.pld_ast.proofs.Grows.{events_of, Grows, grows}
+use Rattle.pld_ast.proofs.ReadLaws.{Reads, first_words, reads}
 
 trace_events : (o : Outcome) → events_of o ≡ (trace_of o).events
 trace_events (Goes st) = refl

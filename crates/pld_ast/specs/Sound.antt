@@ -1,5 +1,5 @@
 -- A program with known names, within the limits of the language.
-use Rattle.std.specs.Prelude.{ℕ, ◌<◌, ◌≤◌, List, length, sum, slice_index}
+use Rattle.std.specs.Prelude.{ℕ, ◌<◌, ◌≤◌, length, sum, slice_index}
 use Rattle.pld_base.specs.Words.{IsWord}
 use Rattle.pld_ast.specs.Program.{Value, Number, Scalar, Element, Op1, Op2, Action, Skip, Then, Assign, Store, Read, ReadInto, Write, Choose, Repeat, Return, Program}
 use Rattle.pld_ast.specs.Nodes.{action_nodes}

@@ -4,7 +4,7 @@ use Rattle.pld_base.specs.Prefix.{IsPrefixOf}
 use Rattle.pld_base.specs.Events.{words_read, words_written}
 use Rattle.pld_base.specs.Words.{IsWord}
 use Rattle.pld_base.specs.declared.event.Event.{Event}
-use Rattle.pld_base.specs.declared.event.Event.TheVariants.{Read, Write}
+use Rattle.pld_base.specs.declared.event.Event.TheVariants.{Read}
 
 -- how a trace ends: the process is over, it reads at a port that has no more words, or its turns are used up
 pub data TraceEnd : Type 0 where

@@ -1,12 +1,9 @@
 -- Whether the names of a tree are known, by those of its parts.
-use Rattle.std.proofs.Common.{◌≡◌, ℕ, zero, suc, ◌≤◌, ◌+◌, ◌-◌, ◌<◌, ◌^◌, List, ◌∷◌, [], ◌++◌, length, Bool, true, false, refl, sym, ap, subst, ◌∙◌, arith}
+use Rattle.std.proofs.Common.{◌≡◌, ℕ, zero, suc, ◌≤◌, ◌+◌, ◌-◌, ◌<◌, List, ◌∷◌, [], ◌++◌, length, Bool, true, false, refl, sym, ap, subst, ◌∙◌, arith}
 use Rattle.std.specs.Prelude.{◌↔◌, ◌&&◌, IsTrue, nat_lt, map}
-use Rattle.std.specs.List.{count_by, filter}
-use Rattle.std.proofs.lemmas.List.{length-map, take_more, take_all}
+use Rattle.std.proofs.lemmas.List.{take_more, take_all}
 use Rattle.std.proofs.Common.{get_or, take, drop}
-use Rattle.std.proofs.lemmas.List.Sums.{length-filter}
 use Rattle.std.proofs.lemmas.Bool.Decides.{nat_tests}
-use Rattle.pld_base.specs.declared.event.Side.{Side}
 use Rattle.pld_base.specs.declared.event.Side.TheVariants.{In, Out}
 use Rattle.pld_ast.specs.declared.tree.Ty.{Ty}
 use Rattle.pld_ast.specs.declared.tree.UnOp.{UnOp}
@@ -16,14 +13,12 @@ use Rattle.pld_ast.specs.declared.tree.Used.{Used}
 use Rattle.pld_ast.specs.declared.tree.Port.{Port}
 use Rattle.pld_ast.specs.declared.tree.Array.{Array}
 use Rattle.pld_ast.specs.declared.tree.Expr.{Expr}
-use Rattle.pld_ast.specs.declared.tree.Expr.TheVariants.{Lit, Element, Unary, Binary, Cast}
-use Rattle.pld_ast.specs.declared.tree.Target.{Target}
-use Rattle.pld_ast.specs.declared.tree.Target.TheVariants as target
+use Rattle.pld_ast.specs.declared.tree.Expr.TheVariants.{Element, Unary, Binary, Cast}
 use Rattle.pld_ast.specs.declared.tree.Stmt.{Stmt}
-use Rattle.pld_ast.specs.declared.tree.Stmt.TheVariants.{Assign, Read, Write, If, While}
+use Rattle.pld_ast.specs.declared.tree.Stmt.TheVariants.{If, While}
 use Rattle.pld_ast.specs.declared.tree.Operator.{Operator}
 use Rattle.pld_ast.specs.Program.{Value, Action, Choose, Program}
-use Rattle.pld_ast.specs.Resolve.{Names, is_in, is_out, ports_at, place_in, value_in, action_in, block_in, declared_in, program_of, op1_of, assigned, read_to}
+use Rattle.pld_ast.specs.Resolve.{Names, ports_at, place_in, value_in, action_in, block_in, op1_of}
 use Rattle.pld_ast.specs.Sound.{IsKnownValue, IsKnown}
 use Rattle.pld_ast.proofs.Views.{value_in-Element, value_in-Unary, value_in-Binary, value_in-Cast, action_in-If, action_in-While}
 use Rattle.pld_check.specs.Known.{IsPort, AreFilled}

@@ -1,7 +1,7 @@
 -- The test of sound programs tells just these.
-use Rattle.std.proofs.Common.{◌≡◌, ℕ, zero, suc, ◌<◌, ◌≤◌, ◌^◌, List, [], ◌∷◌, length, Bool, true, false, refl, sym, ap, ◌∙◌, arith}
+use Rattle.std.proofs.Common.{◌≡◌, ℕ, ◌<◌, ◌≤◌, ◌^◌, List, [], ◌∷◌, length, Bool, true, false, refl, sym, arith}
 use Rattle.std.proofs.lemmas.Bool.Decides.{nat_tests}
-use Rattle.std.specs.Prelude.{◌↔◌, ◌&&◌, IsTrue, nat_le, nat_lt, sum}
+use Rattle.std.specs.Prelude.{◌&&◌, nat_le, nat_lt, sum}
 use Rattle.pld_ast.specs.Program.{Value, Number, Scalar, Element, Op1, Op2, Action, Skip, Then, Assign, Store, Read, ReadInto, Write, Choose, Repeat, Return, Program}
 use Rattle.pld_ast.specs.Nodes.{action_nodes}
 use Rattle.pld_ast.specs.Sound.{IsKnownValue, IsKnown, IsSound}

@@ -1,5 +1,5 @@
 -- The code of choices, loops and lists of statements: a jump is written after the code that it passes.
-use Rattle.std.proofs.Common.{◌≡◌, ℕ, ◌+◌, ◌-◌, ◌*◌, ◌<◌, ◌≤◌, List, [], ◌∷◌, ◌++◌, length, refl, sym, ap, ◌∙◌, subst, arith, append_assoc, length-append, drop, get_or}
+use Rattle.std.proofs.Common.{◌≡◌, ℕ, ◌+◌, ◌-◌, ◌*◌, ◌<◌, ◌≤◌, List, [], ◌∷◌, ◌++◌, length, sym, ap, ◌∙◌, subst, arith, append_assoc, length-append, drop, get_or}
 use Rattle.std.specs.Prelude.{slice_set, min, pos}
 use Rattle.std.proofs.Math.Seq.{set-append_seam}
 use Rattle.std.proofs.lemmas.List.{drop_more}
@@ -7,13 +7,12 @@ use Rattle.pld_ast.specs.declared.tree.Expr.{Expr}
 use Rattle.pld_ast.specs.declared.tree.Stmt.{Stmt}
 use Rattle.pld_ast.specs.declared.tree.Stmt.TheVariants.{If, While}
 use Rattle.pld_ast.specs.declared.tree.Operator.{Operator}
-use Rattle.pld_ast.specs.Program.{Value, Action, Choose, Repeat}
 use Rattle.pld_ast.specs.Nodes.{value_nodes, action_nodes}
 use Rattle.pld_ast.specs.Resolve.{value_in, action_in, block_in, declared_in, program_of}
 use Rattle.pld_ast.proofs.Views.{action_in-If, action_in-While}
 use Rattle.rv_isa.specs.declared.instr.Instr.{Instr}
 use Rattle.rv_isa.specs.declared.instr.Instr.TheVariants.{Bne, Jal}
-use Rattle.rv_back.specs.Code.{neg_of, choose_code, repeat_code, value_code, action_code}
+use Rattle.rv_back.specs.Code.{neg_of, choose_code, repeat_code, action_code}
 use Rattle.rv_back.specs.Form.{HasSpace, jump_on, jump_back, open_test, expr_code, stmt_code, block_code}
 use Rattle.rv_back.proofs.Lengths.{value_short, action_short}
 

@@ -1,4 +1,4 @@
-use Rattle.std.specs.Prelude.{◌↔◌, IsTrue, ◌≤◌, length, take}
+use Rattle.std.specs.Prelude.{take}
 use Rattle.pld_ast.specs.Resolve.{block_in, declared_in, program_of}
 use Rattle.pld_ast.specs.Sound.{IsKnown}
 use Rattle.pld_check.proofs.Parts.{Tells}

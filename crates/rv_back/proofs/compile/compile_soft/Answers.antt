@@ -7,7 +7,7 @@ use Rattle.pld_ast.specs.Sound.{IsSound}
 use Rattle.rv_core.specs.Process.{soft_process, NeverTraps}
 use Rattle.rv_back.specs.Code.{soft_code}
 use Rattle.rv_back.specs.Form.{soft_form}
-use Rattle.rv_back.proofs.Whole.{has_room, has_space, whole_code, whole_short, whole_form, sound_as, code_as, of_image}
+use Rattle.rv_back.proofs.Whole.{has_space, whole_code, whole_short, whole_form, sound_as, code_as, of_image}
 use Rattle.rv_back.proofs.compile.compile_soft.Goals as goal
 
 sound : (c : goal.After-outs) → IsSound (program_of c.operator-op.result.now)
