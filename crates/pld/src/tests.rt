@@ -239,6 +239,45 @@ fn spends_its_steps(rt: HostRuntime) -> Result<(), Fail> {
 
 /// At a fault of the source all whole statements before were answered. Behind `quit` nothing is taken.
 #[test]
+fn adds_one_in_a_loop(rt: HostRuntime) -> Result<(), Fail> {
+    let text = b"op inc soft
+void inc(in a, out b) {
+  int32_t i;
+  int32_t x;
+  while (i < 3) { x = read(a); write(b, x + 1); i = i + 1; }
+}
+end
+input src inc.i0
+output inc.o0 dst
+feed src 5 6 4294967295
+build
+run
+";
+    let (status, sink, _) = run(&rt, text, 100_000, 4096, (0, 0))?;
+    assert_eq!(rt; status, Status::Fine);
+    assert_eq!(rt; sink.bytes(), ADDED);
+    Ok(())
+}
+
+#[test]
+fn waits_for_a_word(rt: HostRuntime) -> Result<(), Fail> {
+    let text = b"op f soft
+void f(in a, out b) { int32_t x; while (1) { x = read(a); write(b, x); } }
+end
+input s f.i0
+output f.o0 y
+feed s
+build
+run
+";
+    let (status, sink, _) = run(&rt, text, 100_000, 4096, (0, 0))?;
+    assert_eq!(rt; status, Status::Fine);
+    let replies: &[u8] = b"ok\nok\nok\nok\nbuilt 1 compiled 1\nstalled\nat f.i0 empty\nout y 0\n";
+    assert_eq!(rt; sink.bytes(), replies);
+    Ok(())
+}
+
+#[test]
 fn stops_at_each_take(rt: HostRuntime) -> Result<(), Fail> {
     let rows: [(&[u8], usize, u64, &[u8], Status); 5] = [
         (ADD_ONE, 4096, 1, b"", Status::ReadFault),

@@ -1,6 +1,7 @@
 //! An operator's text as a tree, and its names looked up.
 #![tactic(auto)]
 
+mod copy;
 mod laws;
 mod lookup;
 mod nodes;

@@ -1,6 +1,6 @@
 //! Operators that the compilers take.
 
-ghost use Rattle.std.specs.Prelude.{◌≡◌, ◌≤◌, ◌<◌, ◌↔◌, ◌&&◌, IsTrue, true, false, MatchOption, map, sum, min, length};
+ghost use Rattle.std.specs.Prelude.{◌≡◌, ◌≤◌, ◌<◌, ◌↔◌, ◌&&◌, IsTrue, true, false, MatchOption, IfOk, map, sum, min, length};
 ghost use Rattle.pld_ast.specs.Resolve.{program_of};
 ghost use Rattle.pld_ast.specs.Sound.{IsSound};
 ghost use Rattle.pld_check.specs.Known.{AreFilled};
@@ -8,6 +8,8 @@ ghost use Rattle.pld_check.specs.Tested.{is_sound as is_sound_program};
 
 use crate::known::{are_known, both};
 use pld_ast::{Array, Operator, count_ins, count_outs};
+use pld_base::NoMemory;
+use std::alloc::Global;
 use std::marker::Model;
 
 // The most ports of one side.
@@ -148,6 +150,15 @@ impl Checked {
         ensures sound { IsSound (program_of self.now) }
     {
         &self.operator
+    }
+
+    /// A copy of it.
+    pub fn copy(&self, alloc: Global) -> Result<Checked, NoMemory>
+        ensures { IfOk result (λ made. made ≡ self.now) }
+    {
+        Ok(Checked {
+            operator: self.operator.copy(alloc)?,
+        })
     }
 
     /// How many in-ports it has, at most 8.

@@ -42,6 +42,7 @@ mod tests {
     use pld_ast::{BinOp, Expr, Operator, Port, Scalar, Stmt, Target, Ty, Used};
     use pld_base::{Name, Permits, Place, PortNo, Side, StepEnd};
     use sqlite_items::{Boxed, Items};
+    use rv_isa::{Imm, Instr, Reg, Upper};
     use std::test::Fail;
 
     // void f(out b) { int32_t x; x = x + 1; write(b, x); }
@@ -76,6 +77,46 @@ mod tests {
         })
     }
 
+    // The code of that operator, worked out by hand.
+    fn its_code() -> [Instr; 13] {
+        let x2 = Reg::new(2);
+        let x8 = Reg::new(8);
+        let x9 = Reg::new(9);
+        let x10 = Reg::new(10);
+        let x11 = Reg::new(11);
+        let x12 = Reg::new(12);
+        let moved = |rd: Reg, rs1: Reg| Instr::Addi {
+            rd,
+            rs1,
+            imm: Imm::new(0),
+        };
+        let added = |rd: Reg, rs1: Reg, imm: Imm| Instr::Addi { rd, rs1, imm };
+        let upper = |rd: Reg, imm: Upper| Instr::Lui { rd, imm };
+        [
+            upper(x8, Upper::new(0x20)),
+            upper(x9, Upper::new(0x80000)),
+            upper(x2, Upper::new(0x28)),
+            added(x2, x2, Imm::new(256)),
+            moved(x10, x12),
+            moved(x11, x10),
+            upper(x10, Upper::new(0)),
+            added(x10, x10, Imm::new(1)),
+            Instr::Add {
+                rd: x10,
+                rs1: x11,
+                rs2: x10,
+            },
+            moved(x12, x10),
+            moved(x10, x12),
+            Instr::Sw {
+                rs1: x9,
+                rs2: x10,
+                imm: Imm::new(256),
+            },
+            Instr::Ebreak,
+        ]
+    }
+
     #[test]
     fn writes_the_next_number(rt: HostRuntime) -> Result<(), Fail> {
         let alloc = rt.alloc();
@@ -85,7 +126,8 @@ mod tests {
         let op = Checked::of(next_number(alloc, f, b, x)?).ok_or("not sound")?;
         let permit = Permits::new().issue(alloc, 1)?.pop().ok_or("no permit")?;
         let image = compile_soft(alloc, permit, &op)?;
-        assert_eq!(rt; image.code().len(), 13);
+        let code: &[Instr] = &its_code();
+        assert_eq!(rt; image.code(), code);
         let mut core = image.load(alloc)?;
         for _ in 0..11 {
             assert_eq!(rt; core.step(), StepEnd::Went);
