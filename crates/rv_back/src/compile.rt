@@ -41,8 +41,8 @@ mod tests {
     use super::*;
     use pld_ast::{BinOp, Expr, Operator, Port, Scalar, Stmt, Target, Ty, Used};
     use pld_base::{Name, Permits, Place, PortNo, Side, StepEnd};
-    use sqlite_items::{Boxed, Items};
     use rv_isa::{Imm, Instr, Reg, Upper};
+    use sqlite_items::{Boxed, Items};
     use std::test::Fail;
 
     // void f(out b) { int32_t x; x = x + 1; write(b, x); }
