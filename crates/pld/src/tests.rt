@@ -183,7 +183,7 @@ fn answers_each_statement(rt: HostRuntime) -> Result<(), Fail> {
         (b"\n# nothing\n", b"", Status::Fine),
         (b"hello", b"refused 1 BadLine\n", Status::SomeRefused),
         (
-            b"build\nop f soft\nvoid f(in a, out b) { while (1) { } }\nend\n",
+            b"build\nop f soft\nvoid f(in a, out b) { if (1) { } }\nend\n",
             b"refused 1 BadLine\nrefused 2 BadLine\n",
             Status::SomeRefused,
         ),

@@ -159,7 +159,7 @@ mod tests {
             b"feed X -0x1".as_slice(),
             b"feed X +1".as_slice(),
             b"feed X -".as_slice(),
-            b"quit".as_slice(),
+            b"quit now".as_slice(),
         ] {
             let next = next_statement(rt.alloc(), line, true)?;
             assert!(rt; matches!(&next, Next::BadLine(_)));
