@@ -68,3 +68,5 @@ fn main(rt: HostRuntime) -> ExitCode {
 mod rows;
 #[cfg(test)]
 mod tests;
+#[cfg(test)]
+mod texts;

@@ -1,10 +1,10 @@
 //! Operators, built as trees, that are run by their plain meaning and, compiled, on the softcore. Both
 //! write the same words, which stand here worked out by hand.
 
-use feed_run::run_on;
 use pld_ast::{Array, BinOp, Expr, Operator, Port, Scalar, Stmt, Target, Ty, UnOp, Used};
 use pld_base::{Event, Name, NoMemory, Permits, Place, Side};
 use pld_check::Checked;
+use pld_image::{PageCore, TurnEnd};
 use pld_mean::run_c;
 use rv_back::compile_soft;
 use sqlite_items::{Boxed, Items};
@@ -205,8 +205,27 @@ fn made(alloc: Global, op: &Checked, feed: &[u32]) -> Result<Option<Vec<u32>>, N
         return Ok(None);
     };
     let image = compile_soft(alloc, permit, op)?;
-    let run = run_on(alloc, &image, feed, 100_000)?;
-    Ok(Some(run.written))
+    let mut core = PageCore::load(alloc, &image)?;
+    let mut words = Vec::new(alloc);
+    let mut read = 0usize;
+    for _ in 0..1000 {
+        match core.turn() {
+            TurnEnd::AtRead(_) => {
+                if read >= feed.len() {
+                    return Ok(Some(words));
+                }
+                core.resume_read(feed[read]);
+                read += 1;
+            }
+            TurnEnd::AtWrite(_, word) => {
+                words.push(word)?;
+                core.resume_write();
+            }
+            TurnEnd::Ended => return Ok(Some(words)),
+            TurnEnd::Limit => {}
+        }
+    }
+    Ok(None)
 }
 
 #[test]

@@ -3,7 +3,7 @@
 ghost use Rattle.std.specs.Prelude.{◌≡◌, ◌≤◌, ◌⊎◌, length, take, vec_len, IfOk};
 
 use pld_io::{MemSink, MemSource};
-use pld_session::{Bench, Options, Status, pld, pld_plain};
+use pld_session::{Bench, Entry, Options, Status, pld, pld_plain};
 use std::test::Fail;
 
 /// Runs a session, whose takes give so many bytes, and in which one take and one put fail (0: none).
@@ -149,7 +149,7 @@ fn ends_at_quit(rt: HostRuntime) -> Result<(), Fail> {
         ),
         (
             b"op f soft\nquit\nend\nquit\nhello\n",
-            b"refused 1 BadLine\n",
+            b"refused 1 Source Syntax 1 1\n",
             Status::SomeRefused,
         ),
     ];
@@ -178,13 +178,18 @@ fn refuses_a_line_of_bytes_255(rt: HostRuntime) -> Result<(), Fail> {
 
 #[test]
 fn answers_each_statement(rt: HostRuntime) -> Result<(), Fail> {
-    let rows: [(&[u8], &[u8], Status); 7] = [
+    let rows: [(&[u8], &[u8], Status); 8] = [
         (b"", b"", Status::Fine),
         (b"\n# nothing\n", b"", Status::Fine),
         (b"hello", b"refused 1 BadLine\n", Status::SomeRefused),
         (
             b"build\nop f soft\nvoid f(in a, out b) { if (1) { } }\nend\n",
-            b"refused 1 BadLine\nrefused 2 BadLine\n",
+            b"refused 1 BadLine\nok\n",
+            Status::SomeRefused,
+        ),
+        (
+            b"op f soft\nvoid f(in a) { write(a, 1); }\nend\nop f soft\n\nvoid f() {\nend\nop f soft\nvoid f() { }\nend\nop f soft\nvoid f(in a, out b) { x = 70000; }\nend\n",
+            b"refused 1 Source WrongDirection 1 22\nrefused 4 Source Syntax 3 1\nrefused 8 BadLine\nrefused 11 Source UnknownName 1 23\n",
             Status::SomeRefused,
         ),
         (
@@ -211,9 +216,10 @@ fn answers_each_statement(rt: HostRuntime) -> Result<(), Fail> {
     Ok(())
 }
 
-/// A program of 600 instructions: one round allows 256 of them.
+/// A program of 600 instructions between two writes. A page makes a turn of at most 256 steps in a round, and one
+/// write: the first word comes out in round 1, the second in round 4, and the end is a turn of its own.
 #[test]
-fn spends_its_steps(rt: HostRuntime) -> Result<(), Fail> {
+fn spends_its_rounds(rt: HostRuntime) -> Result<(), Fail> {
     let mut text = b"op f soft\nvoid f(in a, out b) { int32_t x; write(b, 7);\n".to_vec(
         rt.alloc(),
     )?;
@@ -223,17 +229,59 @@ fn spends_its_steps(rt: HostRuntime) -> Result<(), Fail> {
     text.extend_from_slice(
         b"write(b, x); }\nend\ninput s f.i0\noutput f.o0 y\nfeed s\nbuild\nrun\n",
     )?;
-    let (status, sink, _) = run(&rt, text.as_slice(), 1, 4096, (0, 0))?;
+    let rows: [(u64, &[u8]); 4] = [
+        (
+            1,
+            b"ok\nok\nok\nok\nbuilt 1 compiled 1\nspent 1\nout y 1 7\n",
+        ),
+        (
+            3,
+            b"ok\nok\nok\nok\nbuilt 1 compiled 1\nspent 3\nout y 1 7\n",
+        ),
+        (
+            4,
+            b"ok\nok\nok\nok\nbuilt 1 compiled 1\nspent 4\nout y 2 7 100\n",
+        ),
+        (
+            5,
+            b"ok\nok\nok\nok\nbuilt 1 compiled 1\ndone\nout y 2 7 100\n",
+        ),
+    ];
+    for (rounds, want) in rows {
+        let (status, sink, _) = run(&rt, text.as_slice(), rounds, 4096, (0, 0))?;
+        assert_eq!(rt; status, Status::Fine);
+        assert_eq!(rt; sink.bytes(), want);
+    }
+    Ok(())
+}
+
+/// A loop that goes on for ever is spent after the allowed rounds, which its journal has, one by one.
+#[test]
+fn makes_all_allowed_rounds(rt: HostRuntime) -> Result<(), Fail> {
+    let text =
+        b"op f soft\nvoid f(in a, out b) { while (1) { } }\nend\ninput s f.i0\noutput f.o0 y\nfeed s 7\nbuild\nrun\n";
+    let options = Options {
+        rounds: 50,
+        workers: 1,
+    };
+    let mut source = MemSource::new(text.to_vec(rt.alloc())?, Vec::new(rt.alloc()), 4096);
+    let mut sink = MemSink::new(rt.alloc(), Vec::new(rt.alloc()), 1024)?;
+    let mut bench = Bench::new(rt.alloc());
+    let status = pld_plain(rt.alloc(), &options, &mut source, &mut sink, &mut bench);
     assert_eq!(rt; status, Status::Fine);
-    assert_eq!(rt;
-        sink.bytes(),
-        b"ok\nok\nok\nok\nbuilt 1 compiled 1\nspent 1\nout y 1 7\n".as_slice()
-    );
-    let (_, sink, _) = run(&rt, text.as_slice(), 3, 4096, (0, 0))?;
-    assert_eq!(rt;
-        sink.bytes(),
-        b"ok\nok\nok\nok\nbuilt 1 compiled 1\ndone\nout y 2 7 100\n".as_slice()
-    );
+    let want: &[u8] = b"ok\nok\nok\nok\nbuilt 1 compiled 1\nspent 50\nout y 0\n";
+    assert_eq!(rt; sink.bytes(), want);
+    let record = bench.records.pop().ok_or("no record")?;
+    let mut nets = 0u64;
+    for k in 0..record.journal.len() {
+        if let Some(Entry::Net(_)) = record.journal.get(k) {
+            nets = nets.saturating_add(1);
+        }
+    }
+    assert_eq!(rt; nets, 50u64);
+    // A Take and a Give stand before each Net.
+    assert_eq!(rt; record.journal.len(), 150usize);
+    assert_eq!(rt; bench.records.len(), 0usize);
     Ok(())
 }
 

@@ -1,2 +1,5 @@
+pub mod Faults
+pub mod Firsts
 pub mod Known
 pub mod Tested
+pub mod Uses

@@ -1,31 +1,18 @@
 //! Operators that the compilers take.
 
-ghost use Rattle.std.specs.Prelude.{◌≡◌, ◌≤◌, ◌<◌, ◌↔◌, ◌&&◌, IsTrue, true, false, MatchOption, IfOk, map, sum, min, length};
+ghost use Rattle.std.specs.Prelude.{◌≡◌, ◌≤◌, ◌<◌, ◌↔◌, ◌&&◌, IsTrue, true, false, MatchOption, MatchResult, None, IfOk, map, sum, min, length};
 ghost use Rattle.pld_ast.specs.Resolve.{program_of};
 ghost use Rattle.pld_ast.specs.Sound.{IsSound};
 ghost use Rattle.pld_check.specs.Known.{AreFilled};
+ghost use Rattle.pld_check.specs.Faults.{check_fault, Refuses};
 ghost use Rattle.pld_check.specs.Tested.{is_sound as is_sound_program};
 
 use crate::known::{are_known, both};
+use crate::limits::{MOST_ARRAYS, MOST_NODES, MOST_PORTS, MOST_SCALARS, MOST_WORDS, source_fault};
 use pld_ast::{Array, Operator, count_ins, count_outs};
-use pld_base::NoMemory;
+use pld_base::{NoMemory, Refused, SourceFault};
 use std::alloc::Global;
 use std::marker::Model;
-
-// The most ports of one side.
-const MOST_PORTS: usize = 8;
-
-// The most scalars.
-const MOST_SCALARS: usize = 64;
-
-// The most arrays.
-const MOST_ARRAYS: usize = 16;
-
-// The most words of all arrays.
-const MOST_WORDS: u32 = 8192;
-
-// The most nodes.
-const MOST_NODES: u32 = 1000;
 
 /// An operator whose names are declared and which is within the limits of the language: at most 8
 /// in-ports and 8 out-ports, 64 scalars, 16 arrays of at least one word each and 8,192 words in all,
@@ -60,8 +47,8 @@ fn is_filled(array: &Array) -> bool
     array.len >= 1
 }
 
-// Whether each array has a word at least.
-fn are_filled(arrays: &[Array]) -> bool
+/// Whether each array has a word at least.
+pub fn are_filled(arrays: &[Array]) -> bool
     ensures { IsTrue result ↔ AreFilled (map (λ a. a.len) arrays.now) }
 {
     match arrays {
@@ -175,5 +162,24 @@ impl Checked {
         ensures bound { result ≤ 8 }
     {
         count_outs(self.operator.ports.as_slice()) as u8
+    }
+}
+
+/// Checks an operator whose arrays have a word each at least: its names, and the limits of the language.
+///
+/// A fault comes exactly where a name is wrong or a limit is passed. It is the first wrong name in the order of the text, at that
+/// name: a second declaration (`NameTwice`), a name that isn't declared up to there (`UnknownName`), a scalar with an index, an
+/// array without one, a port used as a variable or a variable used as a port (`WrongKind`), a read of an out-port or a write to an
+/// in-port (`WrongDirection`). Ports, scalars and arrays share one scope. Where no name is wrong, it is the first limit that is
+/// passed: `TooLarge` of `Nodes` over 1,000 nodes, at the operator's name, of `Scalars` over 64, `Arrays` over 16, `ArrayWords` over
+/// 8,192 in all, `InPorts` over 8, `OutPorts` over 8, at the name of the first declaration that passes it. No memory is taken.
+pub fn check(op: Operator) -> Result<Checked, Refused<SourceFault>>
+    requires { AreFilled (program_of op).lengths }
+    ensures exact { MatchResult result (λ checked. (checked ≡ op) × (check_fault op ≡ None)) (λ refusal. Refuses refusal (check_fault op)) }
+    ensures sound { IfOk result (λ _checked. IsSound (program_of op)) }
+{
+    match source_fault(&op) {
+        Some(fault) => Err(Refused::Fault(fault)),
+        None => Ok(Checked { operator: op }),
     }
 }

@@ -3,5 +3,12 @@
 
 mod checked;
 mod known;
+mod laws;
+mod limits;
+mod names;
+mod roles;
+#[cfg(test)]
+mod tests;
 
-pub use checked::Checked;
+pub use checked::{Checked, check};
+pub use laws::first_wrong_names;

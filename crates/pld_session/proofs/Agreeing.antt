@@ -1,55 +1,56 @@
 -- The replies to a text are the same, whatever the records of its runs.
 use Rattle.std.proofs.Common.{◌≡◌, ℕ, Bool, true, false, List, [], ◌∷◌, ◌++◌, Option, Some, None, refl, sym, ap, ◌∙◌, subst}
 use Rattle.std.proofs.lemmas.List.Elements.{All-head, All-tail}
-use Rattle.rv_back.specs.Form.{SoftForm}
-use Rattle.feed_run.specs.declared.run.RunEnd.{RunEnd}
-use Rattle.feed_run.specs.Runs.{IsRun, end_after, written_after}
+use Rattle.std.specs.Prelude.{IsSome}
+use Rattle.direct_world.specs.declared.entry.Entry.{Entry}
+use Rattle.direct_world.specs.Plan.{PlanValue}
+use Rattle.direct_world.specs.Replay.{outcome, replay, IsPlain}
 use Rattle.pld_script.specs.declared.statement.Statement.{Statement}
 use Rattle.pld_script.specs.declared.statement.Statement.TheVariants as says
 use Rattle.pld_script.specs.Statements.{Placed}
 use Rattle.pld_driver.specs.Walk.{Answered, Step, Says, Runs, Walked, after, walk, is_quit}
 use Rattle.pld_driver.proofs.Walks.{pick}
-use Rattle.pld_session.specs.declared.session.Record.{Record}
+use Rattle.direct_world.specs.declared.world.Record.{Record}
 use Rattle.pld_session.specs.States.{State}
-use Rattle.pld_session.specs.Replies.{run_reply}
-use Rattle.pld_session.specs.Answers.{answer, answer_to, Parts, parts_in, ran_reply, runs, steps_of, Fits, FitsIn}
+use Rattle.pld_session.specs.Answers.{answer, answer_to, Parts, parts_in, ran_reply, runs, Fits, FitsIn, FitsParts}
 use Rattle.pld_session.specs.Laws.{IsRecorded}
 
--- two runs that fit end alike, and write the same words
-abbrev pub EndsAgree : Type 0
-EndsAgree = (limit : ℕ) (image : SoftForm) (feed : List ℕ) (moves other : ℕ) → IsRun limit image feed moves → IsRun limit image feed other → end_after image feed moves ≡ end_after image feed other
-
-abbrev pub WordsAgree : Type 0
-WordsAgree = (limit : ℕ) (image : SoftForm) (feed : List ℕ) (moves other : ℕ) → IsRun limit image feed moves → IsRun limit image feed other → written_after image feed moves ≡ written_after image feed other
+-- a plan has one run of `plain`
+abbrev pub OnePlain : Type 0
+OnePlain = (plan : PlanValue) (journal other : List Entry) → IsPlain plan journal → IsSome (outcome plan (replay plan journal)) → IsPlain plan other → IsSome (outcome plan (replay plan other)) → journal ≡ other
 
 -- whatever records fit, the answer is the same
 abbrev Agrees : State → Step State Record → Type 0
 Agrees st (Says given) = Unit {0}
 Agrees st (Runs f) = (r s : Record) → Fits st r → Fits st s → f r ≡ f s
 
-replies : (rounds : ℕ) (parts : Parts) (m n : ℕ) → EndsAgree → WordsAgree → IsRun (steps_of rounds) parts.image parts.feed m → IsRun (steps_of rounds) parts.image parts.feed n
-    → ran_reply rounds parts m ≡ ran_reply rounds parts n
-replies rounds parts m n ends words a b =
-    let F : RunEnd → List ℕ = λ e. run_reply parts.name parts.output rounds e (written_after parts.image parts.feed m) in
-    let G : List ℕ → List ℕ = λ l. run_reply parts.name parts.output rounds (end_after parts.image parts.feed n) l in
-    ap F (ends (steps_of rounds) parts.image parts.feed m n a b) ∙ ap G (words (steps_of rounds) parts.image parts.feed m n a b)
+-- a record that fits is the only one
+one_record : (one : OnePlain) (plan : PlanValue) (r s : Record) → r.plan ≡ plan → s.plan ≡ plan → IsPlain r.plan r.journal → IsSome (outcome r.plan (replay r.plan r.journal)) → IsPlain s.plan s.journal → IsSome (outcome s.plan (replay s.plan s.journal)) → r ≡ s
+one_record one plan r s e f a b c d =
+    let same : s.plan ≡ r.plan = f ∙ sym e in
+    let journals : r.journal ≡ s.journal = one r.plan r.journal s.journal a b (subst (λ p. IsPlain p s.journal) same c) (subst (λ p. IsSome (outcome p (replay p s.journal))) same d) in
+    let P : PlanValue → Record = λ p. record { plan = p; journal = r.journal } in
+    let J : List Entry → Record = λ j. record { plan = s.plan; journal = j } in
+    ap P (sym same) ∙ ap J journals
 
-run_agrees : (st : State) (number : ℕ) (parts : Option Parts) → parts_in st ≡ parts → EndsAgree → WordsAgree → Agrees st (runs st number parts)
-run_agrees st number None e ends words = tt
-run_agrees st number (Some parts) e ends words = λ r s a b.
+run_agrees : (st : State) (number : ℕ) (parts : Option Parts) → parts_in st ≡ parts → OnePlain → Agrees st (runs st number parts)
+run_agrees st number None e one = tt
+run_agrees st number (Some parts) e one = λ r s a b.
     let P : Record → Option Parts → Type 0 = λ x p. FitsIn st.rounds p x in
+    let fit : FitsParts st.rounds parts r = subst (P r) e a in
+    let fit' : FitsParts st.rounds parts s = subst (P s) e b in
     let A : Answered State = record { reply = []; refused = false; permits = 0; next = record st { ran = true } } in
-    ap (λ (l : List ℕ). record A { reply = l }) (replies st.rounds parts r.moves s.moves ends words (subst (P r) e a).is_run (subst (P s) e b).is_run)
+    ap (λ x. record A { reply = ran_reply parts x }) (one_record one _ r s fit.plan fit'.plan fit.plain fit.over fit'.plain fit'.over)
 
-answer_agrees : (st : State) (number : ℕ) (said : Option Statement) → EndsAgree → WordsAgree → Agrees st (answer_to st number said)
-answer_agrees st number None ends words = tt
-answer_agrees st number (Some (says.Op name kind text)) ends words = tt
-answer_agrees st number (Some (says.Input name to)) ends words = tt
-answer_agrees st number (Some (says.Output from name)) ends words = tt
-answer_agrees st number (Some (says.Feed name feed)) ends words = tt
-answer_agrees st number (Some says.Build) ends words = tt
-answer_agrees st number (Some says.Quit) ends words = tt
-answer_agrees st number (Some says.Run) ends words = run_agrees st number (parts_in st) refl ends words
+answer_agrees : (st : State) (number : ℕ) (said : Option Statement) → OnePlain → Agrees st (answer_to st number said)
+answer_agrees st number None one = tt
+answer_agrees st number (Some (says.Op name kind text)) one = tt
+answer_agrees st number (Some (says.Input name to)) one = tt
+answer_agrees st number (Some (says.Output from name)) one = tt
+answer_agrees st number (Some (says.Feed name feed)) one = tt
+answer_agrees st number (Some says.Build) one = tt
+answer_agrees st number (Some says.Quit) one = tt
+answer_agrees st number (Some says.Run) one = run_agrees st number (parts_in st) refl one
 
 -- one answer, and then the others
 
@@ -74,10 +75,10 @@ quit_agrees : (b : Bool) (rs ss : List Record) (w v : Walked State Record) → (
 quit_agrees true rs ss w v again a b = refl
 quit_agrees false rs ss w v again a b = again a b
 
-pub walks_agree : (ends : EndsAgree) (words : WordsAgree) (st : State) (placed : List Placed) (rs ss : List Record) → IsRecorded (walk answer st placed rs) → IsRecorded (walk answer st placed ss)
+pub walks_agree : (one : OnePlain) (st : State) (placed : List Placed) (rs ss : List Record) → IsRecorded (walk answer st placed rs) → IsRecorded (walk answer st placed ss)
     → (walk answer st placed rs).out ≡ (walk answer st placed ss).out
-walks_agree ends words st [] rs ss a b = refl
-walks_agree ends words st (p ∷ later) rs ss a b =
+walks_agree one st [] rs ss a b = refl
+walks_agree one st (p ∷ later) rs ss a b =
     quit_agrees (is_quit p.said) rs ss _ _
-    (step_agrees st (answer st p) rs ss (λ next rest. walk answer next later rest) (answer_agrees st p.number p.said ends words)
-    (λ next rs' ss' a' b'. walks_agree ends words next later rs' ss' a' b')) a b
+    (step_agrees st (answer st p) rs ss (λ next rest. walk answer next later rest) (answer_agrees st p.number p.said one)
+    (λ next rs' ss' a' b'. walks_agree one next later rs' ss' a' b')) a b

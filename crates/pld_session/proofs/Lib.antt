@@ -1,3 +1,5 @@
 pub mod Agreeing
-pub mod Starting
+pub mod Alone
 pub mod Running
+pub mod Starting
+pub mod Replying

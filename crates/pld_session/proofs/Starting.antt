@@ -3,7 +3,7 @@ use Rattle.std.proofs.Common.{◌≡◌, ℕ, List, Option, subst}
 use Rattle.std.specs.Prelude.{IsSome}
 use Rattle.pld_driver.specs.Outcome.{Outcome, IsExact, IsTooLong}
 use Rattle.pld_driver.specs.declared.status.Status.{Status}
-use Rattle.pld_session.specs.declared.session.Record.{Record}
+use Rattle.direct_world.specs.declared.world.Record.{Record}
 use Rattle.pld_session.specs.States.{State}
 use Rattle.pld_session.specs.Answers.{answer, Fits}
 

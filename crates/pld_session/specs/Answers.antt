@@ -1,6 +1,6 @@
 -- What is said to a statement, and what the session holds then. At this stage there are six statements beside `quit`:
 -- `op`, `input`, `output`, `feed`, `build` and `run`, each once and in this order. Any other is a bad line.
-use Rattle.std.specs.Prelude.{◌≡◌, ℕ, ◌*◌, Bool, true, false, not, ◌&&◌, ◌==◌, nat_le, is_some, is_none, List, [], length, Option, Some, None, if◌then◌else◌}
+use Rattle.std.specs.Prelude.{◌≡◌, ℕ, Bool, true, false, not, ◌&&◌, ◌==◌, nat_le, is_some, is_none, IsSome, List, [], ◌∷◌, length, Option, Some, None, if◌then◌else◌}
 use Rattle.std.specs.Str.{bytes_eq}
 use Rattle.pld_base.specs.declared.event.End.{End}
 use Rattle.pld_base.specs.declared.event.Kind.{Kind}
@@ -10,21 +10,21 @@ use Rattle.pld_base.specs.declared.event.Side.TheVariants.{In, Out}
 use Rattle.pld_ast.specs.declared.tree.Operator.{Operator}
 use Rattle.pld_ast.specs.Meaning.{trace}
 use Rattle.pld_ast.specs.Resolve.{program_of}
-use Rattle.pld_check.specs.Tested.{is_sound}
-use Rattle.pld_kahn.specs.Kahn.{BeginsStream, IsWholeStream}
-use Rattle.pld_kahn.specs.Network.{Network}
-use Rattle.small_form.specs.Form.{form_of}
-use Rattle.rv_back.specs.Form.{SoftForm, soft_form}
-use Rattle.feed_run.specs.Runs.{IsRun, end_after, written_after}
-use Rattle.feed_run.specs.Streams.{alone, its_output}
-use Rattle.feed_run.specs.declared.run.RunEnd.TheVariants.{Spent}
+use Rattle.pld_base.specs.declared.fault.SourceFault.{SourceFault}
+use Rattle.pld_source.specs.Reading.{Reading, Faulty, Reads, reading}
+use Rattle.pld_image.specs.Forms.{SoftForm}
+use Rattle.rv_back.specs.Form.{soft_form}
+use Rattle.direct_world.specs.declared.world.Record.{Record}
+use Rattle.direct_world.specs.Promise.{KeepsPromise}
+use Rattle.direct_world.specs.Replay.{replay, outcome, IsLegal, IsPlain}
+use Rattle.direct_world.specs.Reply.{reply, name_in}
+use Rattle.pld_session.specs.Plans.{plan_alone}
 use Rattle.pld_script.specs.declared.statement.Statement.{Statement}
 use Rattle.pld_script.specs.declared.statement.Statement.TheVariants as says
 use Rattle.pld_script.specs.Statements.{Placed}
 use Rattle.pld_driver.specs.Walk.{Answered, Step, Says, Runs}
 use Rattle.pld_session.specs.declared.session.Added.{Added}
-use Rattle.pld_session.specs.declared.session.Record.{Record}
-use Rattle.pld_session.specs.Replies.{ok_reply, bad_line_reply, built_reply, run_reply}
+use Rattle.pld_session.specs.Replies.{ok_reply, bad_line_reply, source_reply, built_reply}
 use Rattle.pld_session.specs.States.{State}
 
 -- the statement is refused, and nothing changes
@@ -38,15 +38,21 @@ accepts st = record { reply = ok_reply; refused = false; permits = 0; next = st 
 abbrev pub accepts_if : Bool → State → ℕ → State → Answered State
 accepts_if test st number next = if test then accepts next else refuses st number
 
--- ---- op: a text of the small form, with known names and within the limits
+-- ---- op: a text without a fault, of an operator with one in-port and one out-port
 
-abbrev pub adds_found : State → ℕ → List ℕ → Option Operator → Answered State
-adds_found st number name None = refuses st number
-adds_found st number name (Some operator) =
-    accepts_if (is_sound (program_of operator)) st number (record st { operator = Some (record { name = name; operator = operator }) })
+-- the text's fault is told, and nothing changes
+abbrev pub refuses_source : State → ℕ → SourceFault → Answered State
+refuses_source st number fault = record { reply = source_reply number fault; refused = true; permits = 0; next = st }
+
+abbrev pub is_single : Operator → Bool
+is_single operator = ((program_of operator).ins == 1) && ((program_of operator).outs == 1)
+
+abbrev pub adds_read : State → ℕ → List ℕ → Reading → Answered State
+adds_read st number name (Faulty fault) = refuses_source st number fault
+adds_read st number name (Reads operator) = accepts_if (is_single operator) st number (record st { operator = Some (record { name = name; operator = operator }) })
 
 abbrev pub adds : State → ℕ → List ℕ → Kind → List ℕ → Answered State
-adds st number name Soft text = if is_some st.operator then refuses st number else adds_found st number name (form_of text)
+adds st number name Soft text = if is_some st.operator then refuses st number else adds_read st number name (reading text)
 adds st number name Hard text = refuses st number
 
 -- ---- input, output, feed: the three names differ, and the ports are the operator's i0 and o0
@@ -100,10 +106,6 @@ builds st number = if is_none st.image && is_some st.feed then builds_operator s
 
 -- ---- run
 
--- a run makes at most 256 steps a round
-abbrev pub steps_of : ℕ → ℕ
-steps_of rounds = 256 * rounds
-
 -- what a run is made of, if all of it is there
 pub record Parts : Type 0 where
   pub name : List ℕ
@@ -122,32 +124,26 @@ parts_of None output feed image = None
 abbrev pub parts_in : State → Option Parts
 parts_in st = if st.ran then None else parts_of st.operator st.output st.feed st.image
 
--- the reply to a run that made so many moves
-abbrev pub ran_reply : ℕ → Parts → ℕ → List ℕ
-ran_reply rounds parts moves =
-    run_reply parts.name parts.output rounds (end_after parts.image parts.feed moves) (written_after parts.image parts.feed moves)
+-- the reply to a run, read off its record
+abbrev pub ran_reply : Parts → Record → List ℕ
+ran_reply parts run = reply (name_in (parts.name ∷ [])) (name_in (parts.output ∷ [])) run.plan (replay run.plan run.journal)
 
 abbrev pub runs : State → ℕ → Option Parts → Step State Record
 runs st number None = Says (refuses st number)
 runs st number (Some parts) =
-    Runs (λ run. record { reply = ran_reply st.rounds parts run.moves; refused = false; permits = 0; next = record st { ran = true } })
+    Runs (λ run. record { reply = ran_reply parts run; refused = false; permits = 0; next = record st { ran = true } })
 
--- the operator between its input, with these words, and its output
-abbrev pub design_of : Parts → Network
-design_of parts = alone (trace (program_of parts.operator)) parts.feed
-
--- the words that a run writes
-abbrev pub words_of : Parts → Record → List ℕ
-words_of parts run = written_after parts.image parts.feed run.moves
-
--- The record of a run fits. Its words begin the Kahn stream of the output, and are the whole of it where the run is done or stalled.
+-- The record of a run fits the session before it.
 pub record FitsParts (rounds : ℕ) (parts : Parts) (run : Record) : Type 0 where
-  -- it is a run of the image on the feed, of at most the steps that are allowed
-  pub is_run : IsRun (steps_of rounds) parts.image parts.feed run.moves
-  -- the image is that of a full build
-  pub built : parts.image ≡ soft_form parts.operator
-  pub begins : BeginsStream (design_of parts) its_output 0 (words_of parts run)
-  pub whole : (end_after parts.image parts.feed run.moves ≡ Spent → ⊥) → IsWholeStream (design_of parts) its_output 0 (words_of parts run)
+  -- what was run: the image of a full build, the rows, the words of the feed as they stand, and the allowed rounds
+  pub plan : run.plan ≡ plan_alone rounds (soft_form parts.operator) parts.feed
+  -- each entry is legal in the state after those before it, and the last state is the first that is over
+  pub legal : IsLegal run.plan run.journal
+  pub over : IsSome (outcome run.plan (replay run.plan run.journal))
+  -- the entries are those of one worker, who takes the pages in ascending order
+  pub plain : IsPlain run.plan run.journal
+  -- its words are those of the operator's Kahn streams
+  pub promise : KeepsPromise run.plan (trace (program_of parts.operator) ∷ []) run.journal
 
 abbrev pub FitsIn : ℕ → Option Parts → Record → Type 0
 FitsIn rounds None run = ⊥

@@ -5,7 +5,7 @@ use Rattle.std.specs.Io.KnownBytes.{Consumes, Keeps}
 use Rattle.pld_driver.specs.declared.engine.Bench.{Bench}
 use Rattle.pld_driver.specs.declared.status.Status.{Status}
 use Rattle.pld_driver.specs.Outcome.{Outcome, IsExact, IsTooLong}
-use Rattle.pld_session.specs.declared.session.Record.{Record}
+use Rattle.direct_world.specs.declared.world.Record.{Record}
 use Rattle.pld_session.specs.States.{at_first}
 use Rattle.pld_session.specs.Answers.{answer, Fits}
 

@@ -1,7 +1,7 @@
 -- What holds of every session.
 use Rattle.std.specs.Prelude.{◌≡◌, ℕ, true, List, [], All}
 use Rattle.pld_driver.specs.Walk.{Walked, session, transcript}
-use Rattle.pld_session.specs.declared.session.Record.{Record}
+use Rattle.direct_world.specs.declared.world.Record.{Record}
 use Rattle.pld_session.specs.States.{State, at_first}
 use Rattle.pld_session.specs.Answers.{answer, Fits}
 

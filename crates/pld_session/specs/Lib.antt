@@ -1,4 +1,5 @@
 pub mod Answers
+pub mod Plans
 pub mod Replies
 pub mod States
 pub mod Steps

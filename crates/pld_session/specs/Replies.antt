@@ -1,10 +1,11 @@
--- The texts of the replies. Each line ends with byte 10.
-use Rattle.std.specs.Prelude.{ℕ, List, [], ◌∷◌, ◌++◌, length, flat_map, codes, decimal}
-use Rattle.feed_run.specs.declared.run.RunEnd.{RunEnd}
-use Rattle.feed_run.specs.declared.run.RunEnd.TheVariants.{Done, Stalled, Spent}
-
-abbrev pub line_of : List ℕ → List ℕ
-line_of text = text ++ 10 ∷ []
+-- The texts of the replies to all but runs. Each line ends with byte 10.
+use Rattle.std.specs.Prelude.{ℕ, List, ◌++◌, codes, decimal}
+use Rattle.pld_base.specs.declared.fault.FaultKind.{FaultKind}
+use Rattle.pld_base.specs.declared.fault.FaultKind.TheVariants as fault
+use Rattle.pld_base.specs.declared.fault.Limit.{Limit}
+use Rattle.pld_base.specs.declared.fault.Limit.TheVariants as limit
+use Rattle.pld_base.specs.declared.fault.SourceFault.{SourceFault}
+use Rattle.direct_world.specs.Reply.{line_of}
 
 abbrev pub ok_reply : List ℕ
 ok_reply = line_of (codes "ok")
@@ -13,29 +14,35 @@ ok_reply = line_of (codes "ok")
 abbrev pub bad_line_reply : ℕ → List ℕ
 bad_line_reply number = line_of (codes "refused " ++ decimal number ++ codes " BadLine")
 
+-- the limits of the language
+abbrev pub limit_text : Limit → List ℕ
+limit_text limit.Text = codes "Text"
+limit_text limit.Ident = codes "Ident"
+limit_text limit.Tokens = codes "Tokens"
+limit_text limit.Nesting = codes "Nesting"
+limit_text limit.Nodes = codes "Nodes"
+limit_text limit.Scalars = codes "Scalars"
+limit_text limit.Arrays = codes "Arrays"
+limit_text limit.ArrayWords = codes "ArrayWords"
+limit_text limit.InPorts = codes "InPorts"
+limit_text limit.OutPorts = codes "OutPorts"
+
+-- what is wrong with a text
+abbrev pub kind_text : FaultKind → List ℕ
+kind_text fault.BadToken = codes "BadToken"
+kind_text fault.LiteralTooLarge = codes "LiteralTooLarge"
+kind_text fault.Syntax = codes "Syntax"
+kind_text fault.UnknownName = codes "UnknownName"
+kind_text fault.NameTwice = codes "NameTwice"
+kind_text fault.WrongKind = codes "WrongKind"
+kind_text fault.WrongDirection = codes "WrongDirection"
+kind_text (fault.TooLarge most) = codes "TooLarge(" ++ limit_text most ++ codes ")"
+
+-- the operator's text has this fault
+abbrev pub source_reply : ℕ → SourceFault → List ℕ
+source_reply number f =
+    line_of (codes "refused " ++ decimal number ++ codes " Source " ++ kind_text f.kind ++ codes " " ++ decimal f.line ++ codes " " ++ decimal f.column)
+
 -- so many operators stand, and so many images were made
 abbrev pub built_reply : ℕ → ℕ → List ℕ
 built_reply operators compiled = line_of (codes "built " ++ decimal operators ++ codes " compiled " ++ decimal compiled)
-
--- how a run ended, of at most so many rounds
-abbrev pub outcome_line : ℕ → RunEnd → List ℕ
-outcome_line rounds Done = line_of (codes "done")
-outcome_line rounds (Stalled port) = line_of (codes "stalled")
-outcome_line rounds Spent = line_of (codes "spent " ++ decimal rounds)
-
--- the port at which the operator with this name waits
-abbrev pub port_line : List ℕ → RunEnd → List ℕ
-port_line name Done = []
-port_line name (Stalled port) = line_of (codes "at " ++ name ++ codes ".i" ++ decimal port.0 ++ codes " empty")
-port_line name Spent = []
-
--- each word behind a space
-abbrev pub spaced : List ℕ → List ℕ
-spaced words = flat_map (λ word. 32 ∷ decimal word) words
-
--- the words of the output with this name
-abbrev pub out_line : List ℕ → List ℕ → List ℕ
-out_line name words = line_of (codes "out " ++ name ++ 32 ∷ decimal (length words) ++ spaced words)
-
-abbrev pub run_reply : (operator output : List ℕ) (rounds : ℕ) → RunEnd → List ℕ → List ℕ
-run_reply operator output rounds end words = outcome_line rounds end ++ port_line operator end ++ out_line output words

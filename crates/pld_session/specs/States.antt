@@ -1,7 +1,8 @@
 -- What a session holds: the statements that it has accepted, each once and in their order.
 use Rattle.std.specs.Prelude.{◌≡◌, ℕ, Bool, false, List, Option, Some, None}
 use Rattle.pld_session.specs.declared.session.Added.{Added}
-use Rattle.rv_back.specs.Form.{SoftForm, soft_form}
+use Rattle.pld_image.specs.Forms.{SoftForm}
+use Rattle.rv_back.specs.Form.{soft_form}
 
 pub record State : Type 0 where
   -- how many rounds a run may make

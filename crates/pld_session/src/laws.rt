@@ -2,12 +2,12 @@
 
 ghost use Rattle.pld_session.specs.Laws.{RepliesAgree};
 
-use feed_run::runs_agree;
+use direct_world::plain_runs_are_one;
 
 /// The replies to a text don't depend on the records of its runs, as long as each fits: what a
 /// session writes is decided by its text and its rounds.
 pub fn replies_agree()
     ensures { RepliesAgree }
 {
-    runs_agree();
+    plain_runs_are_one();
 }

@@ -1,11 +1,15 @@
 //! The texts of the replies.
 
-ghost use Rattle.std.specs.Prelude.{◌≡◌, ◌++◌, OnOk, decimal, codes};
-ghost use Rattle.pld_session.specs.Replies.{ok_reply, bad_line_reply, built_reply, outcome_line, port_line, out_line, spaced, run_reply};
+ghost use Rattle.std.specs.Prelude.{◌≡◌, ◌++◌, OnOk, decimal, codes, length};
+ghost use Rattle.direct_world.specs.Kept.{state_of};
+ghost use Rattle.direct_world.specs.Replay.{outcome, blocked};
+ghost use Rattle.direct_world.specs.World.{out_at};
+ghost use Rattle.direct_world.specs.Reply.{outcome_line, at_line, at_lines, out_line, spaced, lines_below, name_in, reply as run_reply};
+ghost use Rattle.pld_session.specs.Replies.{ok_reply, bad_line_reply, limit_text, kind_text, source_reply, built_reply};
 
-use feed_run::RunEnd;
+use direct_world::{Blocked, Outcome, World};
 use itoa::Buffer;
-use pld_base::{Name, NoMemory};
+use pld_base::{FaultKind, Limit, Name, NoMemory, Side, SourceFault};
 
 /// Writes a text.
 fn put_text(reply: &mut Vec<u8>, text: &[u8]) -> Result<(), NoMemory>
@@ -39,6 +43,59 @@ pub fn put_bad_line(reply: &mut Vec<u8>, number: u64) -> Result<(), NoMemory>
     put_text(reply, b" BadLine\n")
 }
 
+/// Writes which limit of the language was passed.
+fn put_limit(reply: &mut Vec<u8>, limit: Limit) -> Result<(), NoMemory>
+    ensures { OnOk result (reply.new.items ≡ reply.old.items ++ limit_text limit) }
+{
+    match limit {
+        Limit::Text => put_text(reply, b"Text"),
+        Limit::Ident => put_text(reply, b"Ident"),
+        Limit::Tokens => put_text(reply, b"Tokens"),
+        Limit::Nesting => put_text(reply, b"Nesting"),
+        Limit::Nodes => put_text(reply, b"Nodes"),
+        Limit::Scalars => put_text(reply, b"Scalars"),
+        Limit::Arrays => put_text(reply, b"Arrays"),
+        Limit::ArrayWords => put_text(reply, b"ArrayWords"),
+        Limit::InPorts => put_text(reply, b"InPorts"),
+        Limit::OutPorts => put_text(reply, b"OutPorts"),
+    }
+}
+
+/// Writes what is wrong with an operator's text.
+fn put_kind(reply: &mut Vec<u8>, kind: FaultKind) -> Result<(), NoMemory>
+    ensures { OnOk result (reply.new.items ≡ reply.old.items ++ kind_text kind) }
+{
+    match kind {
+        FaultKind::BadToken => put_text(reply, b"BadToken"),
+        FaultKind::LiteralTooLarge => put_text(reply, b"LiteralTooLarge"),
+        FaultKind::Syntax => put_text(reply, b"Syntax"),
+        FaultKind::UnknownName => put_text(reply, b"UnknownName"),
+        FaultKind::NameTwice => put_text(reply, b"NameTwice"),
+        FaultKind::WrongKind => put_text(reply, b"WrongKind"),
+        FaultKind::WrongDirection => put_text(reply, b"WrongDirection"),
+        FaultKind::TooLarge(limit) => {
+            put_text(reply, b"TooLarge(")?;
+            put_limit(reply, limit)?;
+            put_text(reply, b")")
+        }
+    }
+}
+
+/// Writes that an operator is refused for its text's fault, and where that stands.
+pub fn put_source(reply: &mut Vec<u8>, number: u64, fault: SourceFault) -> Result<(), NoMemory>
+    ensures { OnOk result (reply.new.items ≡ reply.old.items ++ source_reply number fault) }
+{
+    put_text(reply, b"refused ")?;
+    put_number(reply, number)?;
+    put_text(reply, b" Source ")?;
+    put_kind(reply, fault.kind)?;
+    put_text(reply, b" ")?;
+    put_number(reply, u64::from(fault.line))?;
+    put_text(reply, b" ")?;
+    put_number(reply, u64::from(fault.column))?;
+    put_text(reply, b"\n")
+}
+
 /// Writes how many operators stand, and how many were compiled.
 pub fn put_built(reply: &mut Vec<u8>, operators: u64, compiled: u64) -> Result<(), NoMemory>
     ensures { OnOk result (reply.new.items ≡ reply.old.items ++ built_reply operators compiled) }
@@ -51,13 +108,14 @@ pub fn put_built(reply: &mut Vec<u8>, operators: u64, compiled: u64) -> Result<(
 }
 
 /// Writes how a run ended.
-fn put_outcome(reply: &mut Vec<u8>, rounds: u64, end: RunEnd) -> Result<(), NoMemory>
-    ensures { OnOk result (reply.new.items ≡ reply.old.items ++ outcome_line rounds end) }
+fn put_outcome(reply: &mut Vec<u8>, rounds: u64, end: Option<Outcome>) -> Result<(), NoMemory>
+    ensures { OnOk result (reply.new.items ≡ reply.old.items ++ outcome_line end rounds) }
 {
     match end {
-        RunEnd::Done => put_text(reply, b"done\n"),
-        RunEnd::Stalled(_) => put_text(reply, b"stalled\n"),
-        RunEnd::Spent => {
+        None => Ok(()),
+        Some(Outcome::Done) => put_text(reply, b"done\n"),
+        Some(Outcome::Stalled) => put_text(reply, b"stalled\n"),
+        Some(Outcome::Spent) => {
             put_text(reply, b"spent ")?;
             put_number(reply, rounds)?;
             put_text(reply, b"\n")
@@ -65,20 +123,26 @@ fn put_outcome(reply: &mut Vec<u8>, rounds: u64, end: RunEnd) -> Result<(), NoMe
     }
 }
 
-/// Writes the port at which the operator waits, if it does.
-fn put_port(reply: &mut Vec<u8>, name: &Name, end: RunEnd) -> Result<(), NoMemory>
-    ensures { OnOk result (reply.new.items ≡ reply.old.items ++ port_line name.now end) }
+/// Writes the port at which an operator stands, if it stands at one.
+fn put_port(reply: &mut Vec<u8>, name: &Name, at: Option<Blocked>) -> Result<(), NoMemory>
+    ensures { OnOk result (reply.new.items ≡ reply.old.items ++ at_line name.now at) }
 {
-    match end {
-        RunEnd::Done => Ok(()),
-        RunEnd::Stalled(port) => {
-            put_text(reply, b"at ")?;
-            put_text(reply, name.as_bytes())?;
+    let Some(at) = at else {
+        return Ok(());
+    };
+    put_text(reply, b"at ")?;
+    put_text(reply, name.as_bytes())?;
+    match at.side {
+        Side::In => {
             put_text(reply, b".i")?;
-            put_number(reply, u64::from(port.0))?;
+            put_number(reply, u64::from(at.port.0))?;
             put_text(reply, b" empty\n")
         }
-        RunEnd::Spent => Ok(()),
+        Side::Out => {
+            put_text(reply, b".o")?;
+            put_number(reply, u64::from(at.port.0))?;
+            put_text(reply, b" full\n")
+        }
     }
 }
 
@@ -105,18 +169,50 @@ fn put_out(reply: &mut Vec<u8>, name: &Name, words: &[u32]) -> Result<(), NoMemo
     put_text(reply, b"\n")
 }
 
+/// Writes the ports at which the operators stand, where the run is stalled.
+fn put_ports(reply: &mut Vec<u8>, names: &[Name], world: &World) -> Result<(), NoMemory>
+    ensures { OnOk result (reply.new.items ≡ reply.old.items ++ at_lines (name_in names.now) (outcome world.now.plan (state_of world.now)) (blocked (state_of world.now)) (length names.now)) }
+{
+    match world.over() {
+        None => Ok(()),
+        Some(Outcome::Done) => Ok(()),
+        Some(Outcome::Stalled) => put_stalled(reply, names, world),
+        Some(Outcome::Spent) => Ok(()),
+    }
+}
+
+/// Writes the ports at which the operators stand.
+fn put_stalled(reply: &mut Vec<u8>, names: &[Name], world: &World) -> Result<(), NoMemory>
+    ensures { OnOk result (reply.new.items ≡ reply.old.items ++ lines_below (λ k. at_line (name_in names.now k) (blocked (state_of world.now) k)) (length names.now)) }
+{
+    for k in 0..names.len() {
+        put_port(reply, &names[k], world.blocked(k))?;
+    }
+    Ok(())
+}
+
+/// Writes the words of the outputs.
+fn put_outs(reply: &mut Vec<u8>, outputs: &[Name], world: &World) -> Result<(), NoMemory>
+    ensures { OnOk result (reply.new.items ≡ reply.old.items ++ lines_below (λ k. out_line (name_in outputs.now k) (out_at (state_of world.now) k)) (length outputs.now)) }
+{
+    for k in 0..outputs.len() {
+        put_out(reply, &outputs[k], world.out(k))?;
+    }
+    Ok(())
+}
+
 /// Writes the reply to a run.
 pub fn put_run(
     reply: &mut Vec<u8>,
-    operator: &Name,
-    output: &Name,
-    rounds: u64,
-    end: RunEnd,
-    words: &[u32],
+    names: &[Name],
+    outputs: &[Name],
+    world: &World,
 ) -> Result<(), NoMemory>
-    ensures { OnOk result (reply.new.items ≡ reply.old.items ++ run_reply operator.now output.now rounds end words.now) }
+    requires names { length names.now ≡ length world.now.plan.pages }
+    requires outputs { length outputs.now ≡ world.now.plan.outs }
+    ensures { OnOk result (reply.new.items ≡ reply.old.items ++ run_reply (name_in names.now) (name_in outputs.now) world.now.plan (state_of world.now)) }
 {
-    put_outcome(reply, rounds, end)?;
-    put_port(reply, operator, end)?;
-    put_out(reply, output, words)
+    put_outcome(reply, world.plan().rounds(), world.over())?;
+    put_ports(reply, names, world)?;
+    put_outs(reply, outputs, world)
 }

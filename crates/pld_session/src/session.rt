@@ -1,25 +1,27 @@
 //! What a session holds, and its answers to statements.
 
 ghost use Rattle.std.specs.Prelude.{◌≡◌, ◌≤◌, ◌^◌, ◌+◌, ◌<◌, [], ℕ, List, Some, None, true, false, All, length, IfOk, OnErr, OnOk};
-ghost use Rattle.pld_session.specs.Replies.{bad_line_reply};
+ghost use Rattle.pld_session.specs.Replies.{bad_line_reply, source_reply};
+ghost use Rattle.pld_source.specs.Reading.{Reads};
 ghost use Rattle.pld_session.specs.States.{State, at_first};
-ghost use Rattle.pld_session.specs.Answers.{answer_to, refuses, accepts, accepts_if, adds, adds_found, may_input as may_input_of, may_output as may_output_of, may_feed as may_feed_of, is_first_in as is_first_in_of, is_first_out as is_first_out_of, differs as differs_from, is_name as is_name_of, builds, runs, parts_in, Fits, FitsParts, answer};
+ghost use Rattle.pld_session.specs.Answers.{answer_to, refuses, accepts, accepts_if, adds, adds_read, is_single as is_single_of, may_input as may_input_of, may_output as may_output_of, may_feed as may_feed_of, is_first_in as is_first_in_of, is_first_out as is_first_out_of, differs as differs_from, is_name as is_name_of, builds, runs, parts_in, Fits, FitsParts, answer};
 ghost use Rattle.pld_base.specs.Words.{IsWord};
-ghost use Rattle.feed_run.specs.Runs.{end_after, written_after};
 ghost use Rattle.pld_session.specs.Steps.{Tells};
 ghost use Rattle.rv_back.specs.Form.{soft_form};
 ghost use Rattle.pld_driver.specs.Moments.{Took, Broke};
 ghost use Rattle.pld_script.specs.Statements.{Placed};
 
-use crate::reply::{put_bad_line, put_built, put_ok, put_run};
-use feed_run::{Run, run_on, runs_write_the_stream};
-use pld_ast::{Operator, operators_are_processes};
-use pld_base::{End, Kind, Name, NoMemory, Permits, Side};
+use crate::plan::plan_alone;
+use crate::reply::{put_bad_line, put_built, put_ok, put_run, put_source};
+use direct_world::{Record, World, plain_is_legal, run_plain, runs_keep_their_promise};
+use pld_ast::operators_are_processes;
+use pld_base::{End, Kind, Name, NoMemory, Permits, Refused, Side, SourceFault};
 use pld_check::Checked;
 use pld_driver::{Bench, Engine};
+use pld_image::{Image, cores_are_processes};
 use pld_script::{Statement, Text, WordList};
-use rv_back::{Image, code_keeps_the_meaning, compile_soft};
-use small_form::read_form;
+use pld_source::read_operator;
+use rv_back::{code_keeps_the_meaning, compile_soft};
 use std::alloc::Global;
 use std::marker::Model;
 
@@ -31,12 +33,6 @@ const FEED_WORDS: usize = 65536;
 pub struct Added {
     pub name: Name,
     pub operator: Checked,
-}
-
-/// What a run leaves: how many moves it made (steps of the softcore, and port operations).
-#[derive(Clone, Copy, Debug, PartialEq, Eq)]
-pub struct Record {
-    pub moves: u64,
 }
 
 /// A session: the statements that it has accepted, each once and in their order.
@@ -65,13 +61,14 @@ impl Model for Session {
 
     ghost view = { λ s. record { rounds = s.rounds; operator = s.operator; input = s.input; output = s.output; feed = s.feed; image = s.image; ran = s.ran } };
 
-    ghost invariant = { λ s. (s.rounds ≤ 1000000) × IfSome s.image (λ image. (length image.code ≤ 12005) × IsImageOf s.operator image) };
+    ghost invariant = { λ s. (1 ≤ s.rounds) × (s.rounds ≤ 1000000) × IfSome s.image (λ image. IsImageOf s.operator image) };
 }
 
 impl Session {
-    /// No statement was accepted yet. Runs may make so many rounds, at most 1,000,000.
+    /// No statement was accepted yet. Runs may make so many rounds, from 1 to 1,000,000.
     pub fn new(rounds: u64) -> Session
-        requires { rounds ≤ 1000000 }
+        requires some { 1 ≤ rounds }
+        requires most { rounds ≤ 1000000 }
         ensures { result ≡ at_first rounds }
     {
         Session {
@@ -105,32 +102,31 @@ impl Session {
         if self.operator.is_some() {
             return refuse(number, reply);
         }
-        match read_form(alloc, text.as_slice())? {
-            None => refuse(number, reply),
-            Some(operator) => self.add_sound(number, name, operator, reply),
+        match read_operator(alloc, text.as_slice()) {
+            Ok(operator) => self.add_read(number, name, operator, reply),
+            Err(Refused::Fault(fault)) => refuse_source(number, fault, reply),
+            Err(Refused::NoMemory) => Err(NoMemory),
         }
     }
 
-    /// Adds the operator, if its names are known and it is within the limits.
-    fn add_sound(
+    /// Adds the operator, if it has one in-port and one out-port.
+    fn add_read(
         &mut self,
         number: u64,
         name: Name,
-        operator: Operator,
+        operator: Checked,
         reply: &mut Vec<u8>,
     ) -> Result<bool, NoMemory>
         requires none { self.old.operator ≡ None }
         requires empty { reply.old.items ≡ [] }
-        ensures { IfOk result (λ refused. Tells (adds_found self.old number name (Some operator)) reply.new.items refused self.new) }
+        ensures { IfOk result (λ refused. Tells (adds_read self.old number name (Reads operator)) reply.new.items refused self.new) }
     {
-        match Checked::of(operator) {
-            None => refuse(number, reply),
-            Some(operator) => {
-                put_ok(reply)?;
-                self.operator = Some(Added { name, operator });
-                Ok(false)
-            }
+        if !is_single(&operator) {
+            return refuse(number, reply);
         }
+        put_ok(reply)?;
+        self.operator = Some(Added { name, operator });
+        Ok(false)
     }
 
     /// Whether an input with this name may be joined to this end.
@@ -298,16 +294,11 @@ impl Session {
         }
         match (&self.operator, &self.output, &self.feed, &self.image) {
             (Some(added), Some(output), Some(feed), Some(image)) => {
-                let run = run_image(alloc, self.rounds, &added.operator, image, feed.as_slice())?;
-                put_run(
-                    reply,
-                    &added.name,
-                    output,
-                    self.rounds,
-                    run.end,
-                    run.written.as_slice(),
-                )?;
-                bench.records.push(Record { moves: run.moves })?;
+                bench.records.reserve(1)?;
+                reply.reserve(reply_room(self.rounds))?;
+                let world = run_alone(alloc, self.rounds, &added.operator, image, feed.as_slice())?;
+                put_run(reply, &[added.name], &[*output], &world)?;
+                bench.records.push(world.finish())?;
                 self.ran = true;
                 Ok(false)
             }
@@ -316,26 +307,37 @@ impl Session {
     }
 }
 
-/// Runs the image of an operator on a feed, for so many rounds.
-fn run_image(
+/// Room for the reply to a run of one operator and one output: a line of each kind, and at most 11 bytes a
+/// round for the output's words.
+fn reply_room(rounds: u64) -> usize
+    requires { rounds ≤ 1000000 }
+{
+    256 + 11 * rounds as usize
+}
+
+/// Runs the image of an operator on a feed, with so many rounds. All memory of the run is taken before its
+/// first entry.
+fn run_alone(
     alloc: Global,
     rounds: u64,
     operator: &Checked,
     image: &Image,
     feed: &[u32],
-) -> Result<Run, NoMemory>
-    requires rounds { rounds ≤ 1000000 }
-    requires short { length image.now.code ≤ 12005 }
+) -> Result<World, NoMemory>
+    requires some { 1 ≤ rounds }
+    requires most { rounds ≤ 1000000 }
     requires built { image.now ≡ soft_form operator.now }
-    ensures fits { IfOk result (λ run. (name output : List ℕ) → FitsParts rounds (record { name = name; operator = operator.now; output = output; feed = feed.now; image = image.now }) (record { moves = run.moves })) }
-    ensures end { IfOk result (λ run. run.end ≡ end_after image.now feed.now run.moves) }
-    ensures written { IfOk result (λ run. run.written.items ≡ written_after image.now feed.now run.moves) }
+    ensures fits { IfOk result (λ world. (name output : List ℕ) → FitsParts rounds (record { name = name; operator = operator.now; output = output; feed = feed.now; image = image.now }) (record { plan = world.plan; journal = world.journal })) }
 {
     code_keeps_the_meaning();
-    runs_write_the_stream();
+    cores_are_processes();
     operators_are_processes(operator.operator());
     are_words(feed);
-    run_on(alloc, image, feed, 256 * rounds)
+    plain_is_legal();
+    runs_keep_their_promise();
+    let plan = plan_alone(alloc, rounds, image, feed)?;
+    let world = World::prepare(alloc, plan)?;
+    Ok(run_plain(world))
 }
 
 /// Each number of a feed is a word.
@@ -349,7 +351,6 @@ fn are_words(feed: &[u32])
 fn compile(alloc: Global, permits: &mut Permits, operator: &Checked) -> Result<Image, NoMemory>
     requires { permits.old + 64 < 2 ^ 64 }
     ensures image { IfOk result (λ image. image ≡ soft_form operator.now) }
-    ensures short { IfOk result (λ image. length image.code ≤ 12005) }
     ensures ok { OnOk result (permits.new ≡ permits.old + 1) }
     ensures err { OnErr result ((permits.old ≤ permits.new) × (permits.new ≤ permits.old + 1)) }
 {
@@ -398,6 +399,22 @@ fn is_name(name: &Name, other: &Option<Name>) -> bool
         None => false,
         Some(other) => name.is_same(other),
     }
+}
+
+/// Whether the operator has one in-port and one out-port.
+fn is_single(operator: &Checked) -> bool
+    ensures { result ≡ is_single_of operator.now }
+{
+    operator.ins() == 1 && operator.outs() == 1
+}
+
+/// Refuses an operator for its text's fault.
+fn refuse_source(number: u64, fault: SourceFault, reply: &mut Vec<u8>) -> Result<bool, NoMemory>
+    requires { reply.old.items ≡ [] }
+    ensures { IfOk result (λ refused. (refused ≡ true) × (reply.new.items ≡ source_reply number fault)) }
+{
+    put_source(reply, number, fault)?;
+    Ok(true)
 }
 
 /// Refuses a statement.

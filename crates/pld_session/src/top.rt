@@ -4,7 +4,8 @@ ghost use Rattle.std.specs.Prelude.{◌≡◌, ◌↔◌, true, false, map, stri
 ghost use Rattle.pld_io.specs.Outside.{Rose};
 ghost use Rattle.pld_session.specs.Headline.{IsFresh, IsInRange, Ran, RanExactly, RanTooLong, NothingHappened, is_command as is_command_of, default_rounds};
 
-use crate::session::{Record, Session};
+use crate::session::Session;
+use direct_world::Record;
 use pld_driver::{Status, run};
 use pld_io::{Sink, Source};
 use std::alloc::Global;

@@ -8,7 +8,8 @@ use Rattle.pld_ast.specs.Sound.{IsSound}
 use Rattle.rv_isa.specs.declared.instr.Instr.{Instr}
 use Rattle.rv_isa.specs.declared.instr.Instr.TheVariants.{Ebreak}
 use Rattle.rv_back.specs.Code.{prologue, soft_code}
-use Rattle.rv_back.specs.Form.{SoftForm, HasRoom, HasSpace, soft_form, block_code}
+use Rattle.pld_image.specs.Forms.{SoftForm}
+use Rattle.rv_back.specs.Form.{HasRoom, HasSpace, soft_form, block_code}
 use Rattle.rv_back.proofs.Lengths.{program_short}
 use Rattle.rv_back.proofs.Parts.{joins}
 

@@ -10,13 +10,8 @@ use Rattle.pld_ast.specs.Nodes.{action_nodes}
 use Rattle.pld_ast.specs.Resolve.{declared_in, program_of, value_in, action_in, block_in}
 use Rattle.rv_isa.specs.declared.instr.Instr.{Instr}
 use Rattle.rv_isa.specs.declared.instr.Instr.TheVariants.{Bne, Jal}
+use Rattle.pld_image.specs.Forms.{SoftForm}
 use Rattle.rv_back.specs.Code.{neg_of, op1_code, value_code, action_code, soft_code}
-
--- what contracts see of an image: the counts of its ports, and its code
-pub record SoftForm : Type 0 where
-  pub ins : ℕ
-  pub outs : ℕ
-  pub code : List Instr
 
 -- an operator, compiled
 abbrev pub soft_form : Operator → SoftForm

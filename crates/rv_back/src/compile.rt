@@ -8,12 +8,12 @@ ghost use Rattle.pld_ast.specs.Resolve.{program_of};
 ghost use Rattle.rv_core.specs.Process.{soft_process, NeverTraps};
 ghost use Rattle.rv_back.specs.Form.{soft_form};
 
-use crate::Image;
 use crate::emit::put_block;
 use crate::laws::code_keeps_the_meaning;
 use crate::templates::{put_end, put_prologue};
 use pld_base::{NoMemory, Permit};
 use pld_check::Checked;
+use pld_image::Image;
 use std::alloc::Global;
 
 /// Compiles an operator for a softcore. The permit is spent. The code does what the operator means: no
@@ -26,21 +26,21 @@ pub fn compile_soft(alloc: Global, permit: Permit, checked: &Checked) -> Result<
     ensures never_traps { IfOk result (λ image. NeverTraps image.code image.ins image.outs) }
     ensures writes_words { IfOk result (λ image. WritesWords (soft_process image.code image.ins image.outs)) }
 {
-    let _spent = permit;
     code_keeps_the_meaning();
     let op = checked.operator();
     let mut code = Vec::new(alloc);
     put_prologue(&mut code)?;
     put_block(&mut code, op, op.body.as_slice())?;
     put_end(&mut code)?;
-    Ok(Image::new(checked.ins(), checked.outs(), code))
+    Ok(Image::of(permit, checked.ins(), checked.outs(), code))
 }
 
 #[cfg(test)]
 mod tests {
     use super::*;
     use pld_ast::{BinOp, Expr, Operator, Port, Scalar, Stmt, Target, Ty, Used};
-    use pld_base::{Name, Permits, Place, PortNo, Side, StepEnd};
+    use pld_base::{Name, Permits, Place, PortNo, Side};
+    use pld_image::{PageCore, TurnEnd};
     use rv_isa::{Imm, Instr, Reg, Upper};
     use sqlite_items::{Boxed, Items};
     use std::test::Fail;
@@ -128,16 +128,16 @@ mod tests {
         let image = compile_soft(alloc, permit, &op)?;
         let code: &[Instr] = &its_code();
         assert_eq!(rt; image.code(), code);
-        let mut core = image.load(alloc)?;
-        for _ in 0..11 {
-            assert_eq!(rt; core.step(), StepEnd::Went);
+        let mut core = PageCore::load(alloc, &image)?;
+        match core.turn() {
+            TurnEnd::AtWrite(port, word) => {
+                assert_eq!(rt; port, PortNo(0));
+                assert_eq!(rt; word, 1);
+                core.resume_write();
+            }
+            _ => return Err("no write".into()),
         }
-        if let StepEnd::AtWrite(port, word) = core.step() {
-            assert_eq!(rt; port, PortNo(0));
-            assert_eq!(rt; word, 1);
-            core.resume_write();
-        }
-        assert_eq!(rt; core.step(), StepEnd::Ended);
+        assert_eq!(rt; core.turn(), TurnEnd::Ended);
         Ok(())
     }
 }

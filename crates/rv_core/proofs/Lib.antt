@@ -1,2 +1,4 @@
 pub mod Blank
+pub mod Decoded
+pub mod Parts
 pub mod Standing

@@ -1,5 +1,5 @@
 use Rattle.pld_ast.specs.Resolve.{program_of}
-use Rattle.pld_check.proofs.Tests.{sound_tells, same_test}
+use Rattle.pld_check.proofs.Telling.{sound_tells, same_test}
 use Rattle.pld_check.proofs.checked.is_sound.Goals as goal
 
 pub returns-clause-tested : goal.returns-clause-tested

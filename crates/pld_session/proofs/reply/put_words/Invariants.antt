@@ -1,5 +1,5 @@
 use Rattle.std.proofs.Common.{◌≡◌, ◌++◌, take}
-use Rattle.pld_session.specs.Replies.{spaced}
+use Rattle.direct_world.specs.Reply.{spaced}
 use Rattle.pld_session.proofs.reply.put_words.Given as goal
 
 abbrev pub invariant-loop-word : goal.invariant-loop-word

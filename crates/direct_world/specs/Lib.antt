@@ -1,0 +1,11 @@
+pub mod Entries
+pub mod Plan
+pub mod Page
+pub mod World
+pub mod Replay
+pub mod Laws
+pub mod Promise
+pub mod Shown
+pub mod Boards
+pub mod Kept
+pub mod Reply

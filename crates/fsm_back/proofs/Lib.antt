@@ -1,0 +1,10 @@
+pub mod Moves
+pub mod Fits
+pub mod Steps
+pub mod Values
+pub mod Actions
+pub mod AreWords
+pub mod Processes
+pub mod Realised
+pub mod Ranges
+pub mod Laying

@@ -1,0 +1,10 @@
+pub mod Shapes
+pub mod Fields
+pub mod Classes
+pub mod Machine
+pub mod Table
+pub mod Page
+pub mod Process
+pub mod Core
+pub mod Drafts
+pub mod Streams

@@ -1,0 +1,4 @@
+pub mod Keeps
+pub mod Offers
+pub mod Filling
+pub mod Leaves

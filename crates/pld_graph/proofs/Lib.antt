@@ -1,0 +1,4 @@
+mod Opens
+pub mod Sounds
+pub mod Refusals
+mod Changes

@@ -1,0 +1,8 @@
+use Rattle.pld_graph.specs.Design.{Design}
+use Rattle.pld_graph.proofs.Changes.{remove_kept}
+use Rattle.pld_graph.proofs.graph.Graph.remove.Goals as goal
+
+pub invariant_of-self : goal.invariant_of-self
+invariant_of-self c =
+    let d : Design = record { operators = c.self.inside.operators.items; channels = c.self.inside.channels.items; depth = c.self.inside.depth } in
+    remove_kept d c.args.name c.in-Some.k c.deref.result.now _ _ c.deref.ensures.value c.in-Some.ensures.within c.in-Some.ensures.place c.remove.ensures.items c.drop_of.ensures c.self.invariant

@@ -1,0 +1,4 @@
+pub mod Parts
+pub mod Design
+pub mod Edits
+pub mod Sound

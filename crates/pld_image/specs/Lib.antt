@@ -1,0 +1,4 @@
+pub mod Forms
+pub mod Cores
+pub mod Standing
+pub mod Steps

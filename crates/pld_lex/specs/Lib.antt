@@ -1,0 +1,4 @@
+pub mod Marks
+pub mod Words
+pub mod Lexed
+pub mod Reads

@@ -1,4 +1,0 @@
-pub mod Form
-pub mod Grammar
-pub mod Parts
-pub mod Tokens
