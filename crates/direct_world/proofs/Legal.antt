@@ -6,7 +6,7 @@ use Rattle.std.proofs.lemmas.Option.{none-some, same_Some, slice_get_within}
 use Rattle.std.proofs.lemmas.Bool.{lt-ltb, ltb-false, and_from}
 use Rattle.std.proofs.lemmas.List.{length-map}
 use Rattle.std.proofs.Math.ListN.{length-set}
-use Rattle.pld_image.specs.Forms.{SoftForm}
+use Rattle.image_form.specs.Spelling.{Form}
 use Rattle.direct_world.specs.declared.entry.Entry.{Entry}
 use Rattle.direct_world.specs.Page.{PageState}
 use Rattle.direct_world.specs.declared.entry.Entry.TheVariants.{Take, Give}
@@ -97,7 +97,7 @@ plain_legal_from plan (n ∷ journal) st z h =
     let is : n ≡ plain_entry st = h.1 in
     (ap (may plan st) is ∙ one.0, plain_legal_from plan journal (after plan st n) (subst (λ e. IsOfSeatZero (after plan st e)) (sym is) (seats_by plan st h.0 z (after plan st (plain_entry st)) (advance_is plan st h.0))) h.2)
 
-started : (seeds : List SoftForm) (k : ℕ) (page : PageState) → slice_get (map start_page seeds) k ≡ Some page → page.holder ≡ None
+started : (seeds : List Form) (k : ℕ) (page : PageState) → slice_get (map start_page seeds) k ≡ Some page → page.holder ≡ None
 started [] k page e = absurd (none-some page e)
 started (s ∷ seeds) zero page e = ap (λ (q : PageState). q.holder) (sym (same_Some (start_page s) page e))
 started (s ∷ seeds) (suc k) page e = started seeds k page e

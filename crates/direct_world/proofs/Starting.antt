@@ -4,7 +4,7 @@ use Rattle.std.specs.Prelude.{slice_get, slice_index_or, Some}
 use Rattle.std.proofs.lemmas.Option.{none-some, same_Some}
 use Rattle.std.proofs.lemmas.List.{length-map}
 use Rattle.direct_world.specs.declared.board.Board.{Board}
-use Rattle.pld_image.specs.Forms.{SoftForm}
+use Rattle.image_form.specs.Spelling.{Form}
 use Rattle.direct_world.specs.Shown.{shown}
 use Rattle.direct_world.specs.Page.{PageState}
 use Rattle.direct_world.specs.Plan.{PlanValue}
@@ -18,7 +18,7 @@ one_more_nothing (suc n) = ap (λ (l : List (List ℕ)). [] ∷ l) (one_more_not
 pub nothing_push : (n : ℕ) → nothing (n + 1) ≡ nothing n ++ [] ∷ []
 nothing_push n = ap nothing (let s : n + 1 ≡ suc n = omega arith in s) ∙ one_more_nothing n
 
-no_gives : (seeds : List SoftForm) (k : ℕ) (page : PageState) → slice_get (map start_page seeds) k ≡ Some page → page.gives ≡ 0
+no_gives : (seeds : List Form) (k : ℕ) (page : PageState) → slice_get (map start_page seeds) k ≡ Some page → page.gives ≡ 0
 no_gives [] k page e = absurd (none-some page e)
 no_gives (s ∷ seeds) zero page e = ap (λ (q : PageState). q.gives) (sym (same_Some (start_page s) page e))
 no_gives (s ∷ seeds) (suc k) page e = no_gives seeds k page e

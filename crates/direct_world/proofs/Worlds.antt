@@ -17,7 +17,7 @@ use Rattle.pld_base.proofs.Events.{words_written_grows, written_one}
 use Rattle.pld_base.proofs.Histories.{after_here, with_event}
 use Rattle.pld_kahn.specs.Network.{sends, receives}
 use Rattle.pld_base.specs.Process.{AreWords, WritesWords}
-use Rattle.pld_image.specs.Forms.{SoftForm}
+use Rattle.image_form.specs.Spelling.{Form}
 use Rattle.pld_image.specs.Cores.{Core}
 use Rattle.pld_image.specs.declared.page.TurnEnd.{TurnEnd}
 use Rattle.pld_image.specs.declared.page.TurnEnd.TheVariants.{AtRead, AtWrite, Ended, Limit}
@@ -307,7 +307,7 @@ zero_at [] i = refl
 zero_at (f ∷ fs) zero = refl
 zero_at (f ∷ fs) (suc i) = zero_at fs i
 
-started_page : (seeds : List SoftForm) (k : ℕ) (page : PageState) → slice_get (map start_page seeds) k ≡ Some page → start_page (slice_index_or seeds k no_image) ≡ page
+started_page : (seeds : List Form) (k : ℕ) (page : PageState) → slice_get (map start_page seeds) k ≡ Some page → start_page (slice_index_or seeds k no_image) ≡ page
 started_page [] k page e = absurd (none-some page e)
 started_page (s ∷ seeds) zero page e = same_Some (start_page s) page e
 started_page (s ∷ seeds) (suc k) page e = started_page seeds k page e

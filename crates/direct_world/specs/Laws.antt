@@ -1,12 +1,10 @@
 -- The design that a plan is made for, and what stands in each state of its runs.
-use Rattle.std.specs.Prelude.{◌≡◌, ℕ, ◌<◌, ◌^◌, ◌≢◌, ◌⊎◌, List, length, slice_index_or, Option, Some, None}
-use Rattle.std.specs.List.{All, AllByRecursion}
-use Rattle.pld_base.specs.Events.{words_written}
+use Rattle.std.specs.Prelude.{◌≡◌, ℕ, ◌<◌, ◌≢◌, ◌⊎◌, List, length, slice_index_or, Option, Some, None}
+use Rattle.std.specs.List.{AllByRecursion}
 use Rattle.pld_base.specs.Process.{WritesWords, Returned, Process, IsProcess, idle}
 use Rattle.pld_base.specs.Machine.{machine}
 use Rattle.pld_base.specs.Channels.{OperatorNode, Family, family_of}
 use Rattle.pld_kahn.specs.Network.{Network, network_of}
-use Rattle.pld_base.specs.Process.{AreWords}
 use Rattle.pld_kahn.specs.Realises.{Realises}
 use Rattle.pld_kahn.specs.Rest.{HasEnded, IsAtEmpty, IsAtFull}
 use Rattle.pld_image.specs.Cores.{Core}

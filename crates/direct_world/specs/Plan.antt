@@ -2,13 +2,13 @@
 use Rattle.std.specs.Prelude.{◌≡◌, ℕ, zero, suc, ◌+◌, ◌*◌, ◌≤◌, ◌<◌, ◌^◌, if◌then◌else◌, nat_lt, List, [], length, Option, Some, None, slice_index_or, All}
 use Rattle.pld_base.specs.Channels.{OperatorNode, InputNode, OutputNode, OutPort, Wiring}
 use Rattle.net_switch.specs.declared.packet.Row.{Row}
-use Rattle.pld_image.specs.Forms.{SoftForm}
+use Rattle.image_form.specs.Spelling.{Form, Soft}
 
 -- What a run is given: the window of its channels, the images of its pages, its rows, the words of each input, the count of outputs, and the
 -- allowed rounds. The k-th page stands on leaf k + 1; slot s of leaf l is row 16·l + s, and has its out-ports first
 pub record PlanValue : Type 0 where
   pub window : ℕ
-  pub pages : List SoftForm
+  pub pages : List Form
   pub tables : List (Option Row)
   pub feeds : List (List ℕ)
   pub outs : ℕ
@@ -18,10 +18,10 @@ abbrev pub row_at : PlanValue → ℕ → ℕ → Option Row
 row_at plan leaf slot = slice_index_or plan.tables (16 * leaf + slot) None
 
 -- the image of the k-th page
-abbrev pub no_image : SoftForm
-no_image = record { ins = 0; outs = 0; code = [] }
+abbrev pub no_image : Form
+no_image = Soft 0 0 []
 
-abbrev pub form_of : PlanValue → ℕ → SoftForm
+abbrev pub form_of : PlanValue → ℕ → Form
 form_of plan k = slice_index_or plan.pages k no_image
 
 -- where the channel out of an out-port leads, and where the one into an in-port comes from

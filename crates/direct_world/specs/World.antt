@@ -7,7 +7,7 @@ use Rattle.pld_image.specs.declared.page.TurnEnd.{TurnEnd}
 use Rattle.pld_image.specs.declared.page.TurnEnd.TheVariants.{AtRead, AtWrite, Ended, Limit}
 use Rattle.pld_image.specs.Cores.{load, turned, after_read, after_write}
 use Rattle.net_switch.specs.declared.packet.Row.{Row}
-use Rattle.pld_image.specs.Forms.{SoftForm}
+use Rattle.image_form.specs.Spelling.{Form}
 use Rattle.direct_world.specs.Page.{PageState}
 use Rattle.direct_world.specs.Plan.{PlanValue, out_row, in_row, feed_of, writer, reader}
 
@@ -24,7 +24,7 @@ abbrev pub nothing : ℕ → List (List ℕ)
 nothing zero = []
 nothing (suc n) = [] ∷ nothing n
 
-abbrev pub start_page : SoftForm → PageState
+abbrev pub start_page : Form → PageState
 start_page form = record { core = load form; holder = None; gives = 0; end = None }
 
 abbrev pub unsent : List ℕ → ℕ

@@ -30,6 +30,10 @@ impl Model for Plan {
 }
 
 impl Plan {
+    /// A plan of at most 63 pages, 8 inputs, 8 outputs and 1,000,000 rounds. `window`, at most 64, is the
+    /// most unread words of a channel. Page k runs the k-th image, on leaf k + 1; leaf 0 is the host's.
+    /// `tables` has 16 rows a leaf, from leaf 0 on: where each of its 8 out-ports leads, and then where each
+    /// of its 8 in-ports comes from; rows that it lacks are `None`. `feeds` are the words of each input.
     pub fn new(
         window: u8,
         pages: Vec<Image>,

@@ -120,6 +120,7 @@ impl Model for Feed {
 }
 
 impl Feed {
+    /// An input that sends these words, each of 32 bits, in this order: as many as there are.
     pub fn of(words: Vec<u32>) -> Feed
         ensures { result ≡ words.items }
     {

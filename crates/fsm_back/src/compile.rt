@@ -5,17 +5,19 @@ ghost use Rattle.pld_base.specs.Process.{WritesWords};
 ghost use Rattle.pld_kahn.specs.Realises.{Realises};
 ghost use Rattle.pld_ast.specs.Meaning.{trace};
 ghost use Rattle.pld_ast.specs.Resolve.{program_of};
-ghost use Rattle.fsm_core.specs.Table.{IsTable, plan_in};
-ghost use Rattle.fsm_core.specs.Process.{hard_process, NeverTraps};
-ghost use Rattle.fsm_back.specs.Table.{gen_hard};
+ghost use Rattle.fsm_core.specs.Table.{plan_in, stage_in};
+ghost use Rattle.pld_image.specs.Processes.{process_of};
+ghost use Rattle.pld_image.specs.Traps.{NeverTraps};
+ghost use Rattle.fsm_back.specs.Form.{hard_form};
 
 use crate::laws::{tables_are_in_range, tables_keep_the_meaning};
 use crate::sequence::{first_states, put_all, sequences};
-use fsm_core::Table;
+use fsm_core::{State, Table};
 use fsm_ir::lower;
 use pld_ast::Array;
 use pld_base::{NoMemory, Permit};
 use pld_check::Checked;
+use pld_image::{Image, ImageForm};
 use std::alloc::Global;
 
 // The lengths of arrays.
@@ -29,17 +31,28 @@ fn lengths(alloc: Global, arrays: &[Array]) -> Result<Vec<u32>, NoMemory>
     Ok(lengths)
 }
 
-/// Compiles an operator for a hardware page. The permit is spent. The table is in range; it does what
-/// the operator means: no more, no less, it returns where that returns and starves where that starves;
-/// it never traps, and it writes words.
-pub fn compile_hard(alloc: Global, permit: Permit, checked: &Checked) -> Result<Table, NoMemory>
-    ensures table { IfOk result (λ table. plan_in table ≡ gen_hard (program_of checked.now)) }
-    ensures in_range { IfOk result (λ table. IsTable (plan_in table)) }
-    ensures realises { IfOk result (λ table. Realises (hard_process (plan_in table)) (trace (program_of checked.now))) }
-    ensures never_traps { IfOk result (λ table. NeverTraps (plan_in table)) }
-    ensures writes_words { IfOk result (λ table. WritesWords (hard_process (plan_in table))) }
+// The table of an operator with these lengths of its arrays, so many registers and these states.
+fn table_of(checked: &Checked, arrays: Vec<u32>, registers: u32, states: Vec<State>) -> Table
+    ensures { plan_in result ≡ record { ins = (program_of checked.now).ins; outs = (program_of checked.now).outs; arrays = arrays.items; registers = registers; states = map stage_in states.items } }
 {
-    let _spent = permit;
+    Table {
+        ins: checked.ins(),
+        outs: checked.outs(),
+        arrays,
+        registers,
+        states,
+    }
+}
+
+/// Compiles an operator for a hardware page. The permit is spent. The image has the operator's table,
+/// which is in range. It does what the operator means: no more, no less, it returns where that returns and
+/// starves where that starves. It never traps, and it writes words.
+pub fn compile_hard(alloc: Global, permit: Permit, checked: &Checked) -> Result<Image, NoMemory>
+    ensures form { IfOk result (λ image. image ≡ hard_form checked.now) }
+    ensures realises { IfOk result (λ image. Realises (process_of image) (trace (program_of checked.now))) }
+    ensures never_traps { IfOk result (λ image. NeverTraps image) }
+    ensures writes_words { IfOk result (λ image. WritesWords (process_of image)) }
+{
     tables_are_in_range();
     tables_keep_the_meaning();
     let op = checked.operator();
@@ -47,11 +60,7 @@ pub fn compile_hard(alloc: Global, permit: Permit, checked: &Checked) -> Result<
     let blocks = sequences(alloc, lowered.blocks.as_slice())?;
     let firsts = first_states(alloc, blocks.as_slice())?;
     let states = put_all(alloc, blocks, firsts.as_slice())?;
-    Ok(Table {
-        ins: checked.ins(),
-        outs: checked.outs(),
-        arrays: lengths(alloc, op.arrays.as_slice())?,
-        registers: lowered.registers as u32,
-        states,
-    })
+    let arrays = lengths(alloc, op.arrays.as_slice())?;
+    let table = table_of(checked, arrays, lowered.registers as u32, states);
+    Ok(Image::of(permit, ImageForm::Hard { table }))
 }

@@ -1,15 +1,22 @@
 //! Operators, built as trees, compiled, and run on the core. The words that they write are worked out by hand.
 
 use super::*;
-use fsm_core::{FsmCore, Next};
+use fsm_core::Next;
 use pld_ast::{Array, BinOp, Expr, Operator, Port, Scalar, Stmt, Target, Ty, UnOp, Used};
-use pld_base::{Name, NoMemory, Permits, Place, Side, StepEnd};
+use pld_base::{Name, NoMemory, Permits, Place, Side};
 use pld_check::Checked;
+use pld_image::{Image, ImageForm, PageCore, TurnEnd, image_bytes};
 use sqlite_items::{Boxed, Items};
 use std::alloc::Global;
 use std::test::Fail;
 
 const AT: Place = Place { line: 1, column: 1 };
+
+// The image of `void f() { }`.
+const EMPTY: [u8; 32] = [
+    0x50, 0x4c, 0x44, 0x49, 0x48, 0, 0, 0, 0, 0, 0, 0, 0x40, 0, 0, 0, 1, 0, 0, 0, 0, 2, 0, 0, 0, 0,
+    0, 0, 0, 0, 0, 0,
+];
 
 fn used(name: &Name) -> Used {
     Used {
@@ -180,39 +187,44 @@ fn literals(alloc: Global, n: &Names) -> Result<Operator, NoMemory> {
     operator(alloc, n, body)
 }
 
-// At most so many steps of a core on these words; the words that it writes.
-fn run(alloc: Global, core: &mut FsmCore, feed: &[u32], steps: u32) -> Result<Vec<u32>, NoMemory> {
+// At most so many turns of a page on these words; the words that it writes.
+fn run(alloc: Global, core: &mut PageCore, feed: &[u32], turns: u32) -> Result<Vec<u32>, NoMemory> {
     let mut written = Vec::new(alloc);
     let mut taken = 0;
-    for _ in 0..steps {
-        match core.step() {
-            StepEnd::Went => {}
-            StepEnd::AtRead(_) => {
+    for _ in 0..turns {
+        match core.turn() {
+            TurnEnd::Limit => {}
+            TurnEnd::AtRead(_) => {
                 if taken >= feed.len() {
                     return Ok(written);
                 }
                 core.resume_read(feed[taken]);
                 taken += 1;
             }
-            StepEnd::AtWrite(_, word) => {
+            TurnEnd::AtWrite(_, word) => {
                 core.resume_write();
                 written.push(word)?;
             }
-            StepEnd::Ended => return Ok(written),
-            StepEnd::Trapped(_) => return Ok(written),
+            TurnEnd::Ended => return Ok(written),
         }
     }
     Ok(written)
 }
 
-// The words that the compiled table writes.
-fn made(alloc: Global, op: &Checked, feed: &[u32]) -> Result<Option<Vec<u32>>, NoMemory> {
+fn compiled(alloc: Global, op: &Checked) -> Result<Option<Image>, NoMemory> {
     let Some(permit) = Permits::new().issue(alloc, 1)?.pop() else {
         return Ok(None);
     };
-    let table = compile_hard(alloc, permit, op)?;
-    let mut core = FsmCore::new(alloc, table)?;
-    Ok(Some(run(alloc, &mut core, feed, 10_000)?))
+    Ok(Some(compile_hard(alloc, permit, op)?))
+}
+
+// The words that the compiled table writes.
+fn made(alloc: Global, op: &Checked, feed: &[u32]) -> Result<Option<Vec<u32>>, NoMemory> {
+    let Some(image) = compiled(alloc, op)? else {
+        return Ok(None);
+    };
+    let mut core = PageCore::load(alloc, &image)?;
+    Ok(Some(run(alloc, &mut core, feed, 1_000)?))
 }
 
 #[test]
@@ -238,12 +250,9 @@ fn the_tables_write_the_words(rt: HostRuntime) -> Result<(), Fail> {
 }
 
 // void f() { }
-#[test]
-fn an_empty_operator_has_one_state(rt: HostRuntime) -> Result<(), Fail> {
-    let alloc = rt.alloc();
-    let n = all_names().ok_or("no names")?;
+fn empty_image(alloc: Global) -> Result<Image, Fail> {
     let op = Operator {
-        name: n.f,
+        name: Name::of(b"f").ok_or("no name")?,
         at: AT,
         ports: Items::new(alloc),
         scalars: Items::new(alloc),
@@ -251,14 +260,30 @@ fn an_empty_operator_has_one_state(rt: HostRuntime) -> Result<(), Fail> {
         body: Items::new(alloc),
     };
     let op = Checked::of(op).ok_or("not sound")?;
-    let permit = Permits::new().issue(alloc, 1)?.pop().ok_or("no permit")?;
-    let table = compile_hard(alloc, permit, &op)?;
-    assert_eq!(rt; table.ins, 0);
-    assert_eq!(rt; table.outs, 0);
-    assert_eq!(rt; table.arrays.len(), 0);
-    assert_eq!(rt; table.registers, 64);
-    assert_eq!(rt; table.states.len(), 1);
-    assert_eq!(rt; table.states[0].micros.len(), 0);
-    assert_eq!(rt; table.states[0].next, Next::End);
+    let image = compiled(alloc, &op)?.ok_or("not built")?;
+    Ok(image)
+}
+
+#[test]
+fn an_empty_operator_has_one_state(rt: HostRuntime) -> Result<(), Fail> {
+    let image = empty_image(rt.alloc())?;
+    match image.form() {
+        ImageForm::Hard { table } => {
+            assert_eq!(rt; table.registers, 64);
+            assert_eq!(rt; table.states.len(), 1);
+            assert_eq!(rt; table.states[0].micros.len(), 0);
+            assert_eq!(rt; table.states[0].next, Next::End);
+            Ok(())
+        }
+        ImageForm::Soft { .. } => Err("code".into()),
+    }
+}
+
+#[test]
+fn an_empty_operator_has_these_bytes(rt: HostRuntime) -> Result<(), Fail> {
+    let alloc = rt.alloc();
+    let bytes = image_bytes(alloc, &empty_image(alloc)?)?;
+    let want: &[u8] = &EMPTY;
+    assert_eq!(rt; bytes.as_slice(), want);
     Ok(())
 }

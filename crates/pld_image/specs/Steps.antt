@@ -1,5 +1,5 @@
 -- One step of a core in code.
-use Rattle.std.specs.Prelude.{◌≡◌, ℕ}
+use Rattle.std.specs.Prelude.{◌≡◌}
 use Rattle.pld_base.specs.Machine.{Move, Steps, Reads, Writes, Stops}
 use Rattle.pld_base.specs.declared.event.StepEnd.{StepEnd}
 use Rattle.pld_base.specs.declared.event.StepEnd.TheVariants.{Went, AtRead, AtWrite, Ended, Trapped}

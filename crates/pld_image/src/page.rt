@@ -1,12 +1,16 @@
 //! A page's core, and its turns.
 
-ghost use Rattle.std.specs.Prelude.{◌≡◌, IfOk};
-ghost use Rattle.pld_image.specs.Cores.{load, next, core_of, turned, turned_in, turn_end, steps, after_read, after_write};
+ghost use Rattle.std.specs.Prelude.{◌≡◌, ◌≤◌, IfOk};
+ghost use Rattle.fsm_core.specs.Table.{IsTable, plan_in};
+ghost use Rattle.image_form.specs.Spelling.{Soft, Hard};
+ghost use Rattle.pld_image.specs.Cores.{load, next, core_in, core_of, turned, turned_in, turn_end, steps, after_read, after_write};
 ghost use Rattle.pld_image.specs.Standing.{IsAtRead, IsAtWrite, StandsAt};
 ghost use Rattle.pld_image.specs.Steps.{Stepped};
 
 use crate::image::Image;
 use crate::laws::turns_are_steps;
+use fsm_core::{FsmCore, Table};
+use image_form::ImageForm;
 use pld_base::{NoMemory, PortNo, StepEnd};
 use rv_core::RvCore;
 use std::alloc::Global;
@@ -18,30 +22,61 @@ pub enum TurnEnd {
     AtRead(PortNo),
     /// The page stands at a write of this word to this out-port.
     AtWrite(PortNo, u32),
-    /// The program has ended. One that has trapped counts as ended.
+    /// The program has ended. A softcore that has trapped counts as ended; a hardware page never traps.
     Ended,
     /// All steps of the turn were made.
     Limit,
 }
 
-/// The steps of a turn: one of a softcore is an instruction.
+/// The steps of a turn: one of a softcore is an instruction, and one of a hardware page a state.
 const STEPS: u16 = 256;
 
-/// The core of a page.
+// What runs an image.
+#[derive(Drop)]
+enum Runner {
+    Soft(RvCore),
+    Hard(FsmCore),
+}
+
+// The runner of code at its start.
+#[tactic(auto, unfolding(crate::specs::Cores::load))]
+fn soft_runner(alloc: Global, ins: u8, outs: u8, code: &[u32]) -> Result<Runner, NoMemory>
+    requires ins { ins ≤ 8 }
+    requires outs { outs ≤ 8 }
+    ensures { IfOk result (λ r. core_in r ≡ load (Soft ins outs code.now)) }
+{
+    let core = RvCore::of_words(alloc, code, ins, outs)?;
+    Ok(Runner::Soft(core))
+}
+
+// The runner of a table at its start.
+#[tactic(auto, unfolding(crate::specs::Cores::load))]
+fn hard_runner(alloc: Global, table: &Table) -> Result<Runner, NoMemory>
+    requires { IsTable (plan_in table.now) }
+    ensures { IfOk result (λ r. core_in r ≡ load (Hard (plan_in table.now))) }
+{
+    let table = table.copy(alloc)?;
+    let core = FsmCore::new(alloc, table)?;
+    Ok(Runner::Hard(core))
+}
+
+/// The core of a page: it runs an image of either kind.
 #[derive(Drop)]
 pub struct PageCore {
-    core: RvCore,
+    runner: Runner,
 }
 
 impl PageCore {
     /// A core of this image at its start. It takes all the memory that the core needs.
-    #[tactic(auto, unfolding(crate::specs::Cores::load, crate::specs::Cores::core_of))]
+    #[tactic(auto, unfolding(crate::specs::Cores::core_of))]
     pub fn load(alloc: Global, image: &Image) -> Result<PageCore, NoMemory>
         ensures { IfOk result (λ page. core_of page ≡ load image.now) }
     {
-        let code = Vec::from_slice(alloc, image.code())?;
-        let core = RvCore::new(alloc, code, image.ins(), image.outs())?;
-        Ok(PageCore { core })
+        let runner = match image.form() {
+            ImageForm::Soft { ins, outs, code } => soft_runner(alloc, *ins, *outs, code)?,
+            ImageForm::Hard { table } => hard_runner(alloc, table)?,
+        };
+        Ok(PageCore { runner })
     }
 
     /// One step, if the core stands at no port and has not ended.
@@ -49,7 +84,10 @@ impl PageCore {
     fn step(&mut self) -> StepEnd
         ensures { Stepped (next (core_of self.old)) (core_of self.old) result (core_of self.new) }
     {
-        self.core.step()
+        match &mut self.runner {
+            Runner::Soft(core) => core.step(),
+            Runner::Hard(core) => core.step(),
+        }
     }
 
     /// At most so many steps.
@@ -87,7 +125,10 @@ impl PageCore {
         requires { IsAtRead (core_of self.old) }
         ensures { core_of self.new ≡ after_read (core_of self.old) word }
     {
-        self.core.resume_read(word);
+        match &mut self.runner {
+            Runner::Soft(core) => core.resume_read(word),
+            Runner::Hard(core) => core.resume_read(word),
+        }
     }
 
     /// The write at which the core stands is done.
@@ -96,6 +137,9 @@ impl PageCore {
         requires { IsAtWrite (core_of self.old) }
         ensures { core_of self.new ≡ after_write (core_of self.old) }
     {
-        self.core.resume_write();
+        match &mut self.runner {
+            Runner::Soft(core) => core.resume_write(),
+            Runner::Hard(core) => core.resume_write(),
+        }
     }
 }

@@ -6,8 +6,10 @@ pub mod Lengths
 pub mod Lines
 pub mod Parts
 pub mod Processes
+pub mod Ranged
 pub mod Realised
 pub mod Runs
 pub mod Steps
 pub mod Values
 pub mod Whole
+pub mod Worded

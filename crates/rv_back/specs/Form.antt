@@ -1,5 +1,5 @@
 -- An operator compiled for a softcore, and the code of its parts.
-use Rattle.std.specs.Prelude.{ℕ, ◌+◌, ◌*◌, ◌≤◌, List, [], ◌∷◌, length, sum, min, pos}
+use Rattle.std.specs.Prelude.{ℕ, ◌+◌, ◌*◌, ◌≤◌, List, [], ◌∷◌, length, map, sum, min, pos}
 use Rattle.pld_ast.specs.declared.tree.Expr.{Expr}
 use Rattle.pld_ast.specs.declared.tree.Stmt.{Stmt}
 use Rattle.pld_ast.specs.declared.tree.Operator.{Operator}
@@ -10,12 +10,18 @@ use Rattle.pld_ast.specs.Nodes.{action_nodes}
 use Rattle.pld_ast.specs.Resolve.{declared_in, program_of, value_in, action_in, block_in}
 use Rattle.rv_isa.specs.declared.instr.Instr.{Instr}
 use Rattle.rv_isa.specs.declared.instr.Instr.TheVariants.{Bne, Jal}
-use Rattle.pld_image.specs.Forms.{SoftForm}
+use Rattle.rv_isa.specs.Spelling.{spelling}
+use Rattle.image_form.specs.Spelling.{Form, Soft, Hard}
 use Rattle.rv_back.specs.Code.{neg_of, op1_code, value_code, action_code, soft_code}
 
--- an operator, compiled
-abbrev pub soft_form : Operator → SoftForm
-soft_form op = record { ins = (program_of op).ins; outs = (program_of op).outs; code = soft_code (program_of op) }
+-- an operator, compiled: the words of its code
+abbrev pub soft_form : Operator → Form
+soft_form op = Soft (program_of op).ins (program_of op).outs (map spelling (soft_code (program_of op)))
+
+-- the image of a softcore with at most 12,005 words
+abbrev pub IsShort : Form → Type 0
+IsShort (Soft ins outs code) = length code ≤ 12005
+IsShort (Hard t) = ⊥
 
 -- an operator whose ports, scalars and arrays are within the limits
 pub record HasRoom (op : Operator) : Type 0 where

@@ -1,36 +1,33 @@
-use Rattle.std.proofs.Common.{◌≡◌}
+use Rattle.std.proofs.Common.{◌≡◌, sym, ◌∙◌, subst}
 use Rattle.pld_base.specs.Process.{WritesWords}
 use Rattle.pld_kahn.specs.Realises.{Realises}
 use Rattle.pld_ast.specs.Meaning.{trace}
 use Rattle.pld_ast.specs.Resolve.{program_of}
-use Rattle.pld_ast.specs.Sound.{IsSound}
-use Rattle.rv_core.specs.Process.{soft_process, NeverTraps}
-use Rattle.rv_back.specs.Code.{soft_code}
-use Rattle.rv_back.specs.Form.{soft_form}
-use Rattle.rv_back.proofs.Whole.{has_space, whole_code, whole_short, whole_form, sound_as, code_as, of_image}
+use Rattle.image_form.specs.Spelling.{form_in, IsForm}
+use Rattle.pld_image.specs.Processes.{process_of}
+use Rattle.pld_image.specs.Traps.{NeverTraps}
+use Rattle.rv_back.specs.Form.{soft_form, IsShort}
+use Rattle.rv_back.proofs.Whole.{whole_form}
+use Rattle.rv_back.proofs.Worded.{words_short}
 use Rattle.rv_back.proofs.compile.compile_soft.Goals as goal
 
-sound : (c : goal.After-outs) → IsSound (program_of c.operator-op.result.now)
-sound c = sound_as c.args.checked.now c.operator-op.result.now c.operator-op.ensures.value c.operator-op.ensures.sound
+form_is : (c : goal.After-image_of) → form_in c.image_of.result ≡ soft_form c.args.checked.now
+form_is c = c.image_of.ensures ∙ whole_form c.args.checked.now c.operator.result.now _ _ _ c.operator.ensures.value c.in_ok-instructions.ensures c.as_slice.ensures.value c.in_ok-words.ensures
 
-code_is : (c : goal.After-outs) → c.put_end.new.code.items ≡ soft_code (program_of c.operator-op.result.now)
-code_is c =
-    whole_code c.operator-op.result.now _ _ _ _ c.as_slice.result.now c.new-code.ensures.items c.in_ok-put_prologue.ensures c.as_slice.ensures (c.in_ok-put_block.ensures (has_space c.operator-op.result.now _ _ c.as_slice.result.now (sound c) c.new-code.ensures.items c.in_ok-put_prologue.ensures c.as_slice.ensures)) c.in_ok-put_end.ensures
+pub of-requires : goal.of-requires
+of-requires c = subst IsForm (sym (form_is c)) (c.words_keep_the_meaning.ensures.in_range (program_of c.args.checked.now) c.operator.ensures.sound)
 
-pub of-requires-clause-short : goal.of-requires-clause-short
-of-requires-clause-short c = whole_short c.operator-op.result.now _ (sound c) (code_is c)
+pub returns-clause-form : goal.returns-clause-form
+returns-clause-form c = c.of.ensures ∙ form_is c.before.before
 
-form_is : (c : goal.After-of) → c.of.result ≡ soft_form c.args.checked.now
-form_is c = whole_form c.args.checked.now c.of.result c.ins.result c.outs.result _ c.of.ensures c.ins.ensures.value c.outs.ensures.value (code_as c.args.checked.now c.operator-op.result.now _ c.operator-op.ensures.value (code_is c.before))
-
-pub returns-clause-code : goal.returns-clause-code
-returns-clause-code c = form_is c
+pub returns-clause-short : goal.returns-clause-short
+returns-clause-short c = subst IsShort (sym (returns-clause-form c)) (words_short (program_of c.args.checked.now) c.operator.ensures.sound)
 
 pub returns-clause-realises : goal.returns-clause-realises
-returns-clause-realises c = of_image (λ code ins outs. Realises (soft_process code ins outs) (trace (program_of c.args.checked.now))) c.args.checked.now c.of.result (form_is c) (c.code_keeps_the_meaning.ensures.realises (program_of c.args.checked.now) c.operator-op.ensures.sound)
+returns-clause-realises c = subst (λ i. Realises (process_of i) (trace (program_of c.args.checked.now))) (sym (returns-clause-form c)) (c.words_keep_the_meaning.ensures.realises (program_of c.args.checked.now) c.operator.ensures.sound)
 
 pub returns-clause-never_traps : goal.returns-clause-never_traps
-returns-clause-never_traps c = of_image NeverTraps c.args.checked.now c.of.result (form_is c) (c.code_keeps_the_meaning.ensures.never_traps (program_of c.args.checked.now) c.operator-op.ensures.sound)
+returns-clause-never_traps c = subst NeverTraps (sym (returns-clause-form c)) (c.words_keep_the_meaning.ensures.never_traps (program_of c.args.checked.now) c.operator.ensures.sound)
 
 pub returns-clause-writes_words : goal.returns-clause-writes_words
-returns-clause-writes_words c = of_image (λ code ins outs. WritesWords (soft_process code ins outs)) c.args.checked.now c.of.result (form_is c) (c.code_keeps_the_meaning.ensures.writes_words (program_of c.args.checked.now) c.operator-op.ensures.sound)
+returns-clause-writes_words c = subst (λ i. WritesWords (process_of i)) (sym (returns-clause-form c)) (c.words_keep_the_meaning.ensures.writes_words (program_of c.args.checked.now) c.operator.ensures.sound)

@@ -1,6 +1,6 @@
-use Rattle.std.proofs.Common.{map, ap, ◌∙◌, length, ◌-◌, sym, subst, refl, Some, ◌<◌, ◌≤◌, arith}
-use Rattle.std.proofs.lemmas.List.{length-map, map-set}
-use Rattle.direct_world.specs.World.{State, page_at}
+use Rattle.std.proofs.Common.{ap, ◌∙◌, ◌-◌, arith}
+use Rattle.std.proofs.lemmas.List.{map-set}
+use Rattle.direct_world.specs.World.{page_at}
 use Rattle.direct_world.specs.Replay.{taken}
 use Rattle.direct_world.specs.Boards.{state_by}
 use Rattle.direct_world.specs.Shown.{shown}

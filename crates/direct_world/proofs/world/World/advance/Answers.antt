@@ -4,7 +4,7 @@ use Rattle.std.specs.Vec.{vec_len, vec_capacity}
 use Rattle.std.proofs.lemmas.Option.{slice_get-get_or, slice_get-map}
 use Rattle.direct_world.specs.World.{State}
 use Rattle.direct_world.specs.Plan.{PlanValue}
-use Rattle.direct_world.specs.Entries.{stored, entry_of}
+use Rattle.direct_world.specs.Entries.{entry_of}
 use Rattle.direct_world.specs.declared.entry.Entry.{Entry}
 use Rattle.std.proofs.lemmas.List.{length-map}
 use Rattle.direct_world.specs.Replay.{outcome, plain_entry, replay, after}
