@@ -1,19 +1,23 @@
 -- What the words of a line say.
-use Rattle.std.specs.Prelude.{ℕ, ◌-◌, Bool, false, ◌==◌, ◌||◌, nat_le, if◌then◌else◌, List, [], ◌∷◌, length, take, drop, Option, Some, None, codes}
+use Rattle.std.specs.Prelude.{ℕ, ◌-◌, Bool, false, ◌==◌, ◌&&◌, ◌||◌, nat_le, if◌then◌else◌, List, [], ◌∷◌, length, take, drop, Option, Some, None, codes}
+use Rattle.std.specs.List.{list_any}
+use Rattle.std.specs.Option.{option_map}
 use Rattle.std.specs.Str.{bytes_eq}
 use Rattle.pld_base.specs.Names.{name_in}
 use Rattle.pld_base.specs.declared.event.End.{End}
 use Rattle.pld_base.specs.declared.event.Kind.{Kind}
-use Rattle.pld_base.specs.declared.event.Kind.TheVariants.{Soft}
+use Rattle.pld_base.specs.declared.event.Kind.TheVariants.{Soft, Hard}
 use Rattle.pld_base.specs.declared.event.PortNo.{PortNo}
 use Rattle.pld_base.specs.declared.event.Side.{Side}
 use Rattle.pld_base.specs.declared.event.Side.TheVariants.{In, Out}
+use Rattle.pld_graph.specs.declared.parts.Cut.{Cut}
+use Rattle.pld_graph.specs.declared.parts.Cut.TheVariants.{Port, Host}
 use Rattle.pld_script.specs.Words.{words_of, are_only}
-use Rattle.pld_script.specs.Numbers.{word_in}
+use Rattle.pld_script.specs.Numbers.{word_in, short_number_in}
 use Rattle.pld_script.specs.declared.line.LineKind.{LineKind}
 use Rattle.pld_script.specs.declared.line.LineKind.TheVariants.{Skipped, Opens, Single}
 use Rattle.pld_script.specs.declared.statement.Statement.{Statement}
-use Rattle.pld_script.specs.declared.statement.Statement.TheVariants.{Op, Input, Output, Feed, Build, Run, Quit}
+use Rattle.pld_script.specs.declared.statement.Statement.TheVariants.{Op, Replace, Remove, Connect, Disconnect, Input, Output, Pin, Unpin, Pages, Feed, Clear, Build, Run, DumpImage, Quit}
 
 -- a comment's first word, which begins with `#`
 abbrev pub starts_comment : List ℕ → Bool
@@ -43,7 +47,10 @@ closes_text line = are_only (codes "end") (words_of line)
 
 -- the kind of page that is asked for
 abbrev pub page_kind_in : List ℕ → Option Kind
-page_kind_in word = if bytes_eq word (codes "soft") then Some Soft else None
+page_kind_in word =
+    if bytes_eq word (codes "soft") then Some Soft
+    else if bytes_eq word (codes "hard") then Some Hard
+    else None
 
 -- `i` for an in-port, `o` for an out-port
 abbrev pub side_in : ℕ → Option Side
@@ -69,32 +76,80 @@ port_of name tail = None
 abbrev pub port_in : List ℕ → Option End
 port_in word = port_of (take (length word - 3) word) (drop (length word - 3) word)
 
+-- a number of pages: 1 to 6
+abbrev pub page_count_of : Option ℕ → Option ℕ
+page_count_of None = None
+page_count_of (Some n) = if nat_le 1 n && nat_le n 6 then Some n else None
+
+abbrev pub page_count_in : List ℕ → Option ℕ
+page_count_in word = page_count_of (short_number_in word)
+
+-- a dot stands in the word
+abbrev pub has_dot : List ℕ → Bool
+has_dot word = list_any (λ b. b == 46) word
+
+-- what is to be disconnected: a port, if a dot stands in the word, or else a name
+abbrev pub cut_in : List ℕ → Option Cut
+cut_in word = if has_dot word then option_map Port (port_in word) else option_map Host (name_in word)
+
+-- the word, where there is one
+abbrev pub only_in : List (List ℕ) → Option (List ℕ)
+only_in (word ∷ []) = Some word
+only_in words = None
+
 -- the two words, where there are two
 abbrev pub two_in : List (List ℕ) → Option (List ℕ × List ℕ)
 two_in (first ∷ second ∷ []) = Some (first, second)
 two_in words = None
 
--- an input of its two parts, where each is one
-abbrev pub input_of : Option (List ℕ) → Option End → Option Statement
-input_of (Some name) (Some port) = Some (Input name port)
-input_of (Some name) None = None
-input_of None port = None
+-- what is made of two parts, where each is one
+abbrev pub of_both : {A B C : Type 0} → (A → B → C) → Option A → Option B → Option C
+of_both make (Some a) (Some b) = Some (make a b)
+of_both make (Some a) None = None
+of_both make None b = None
+
+-- a name, and nothing else
+abbrev pub only_name_in : List (List ℕ) → Option (List ℕ)
+only_name_in (name ∷ []) = name_in name
+only_name_in words = None
+
+-- the words behind `remove`: NAME
+abbrev pub remove_in : List (List ℕ) → Option Statement
+remove_in words = option_map Remove (only_name_in words)
+
+-- the words behind `connect`: PORT PORT
+abbrev pub connect_in : List (List ℕ) → Option Statement
+connect_in (from ∷ to ∷ []) = of_both Connect (port_in from) (port_in to)
+connect_in words = None
+
+-- the words behind `disconnect`: PORT, or NAME
+abbrev pub disconnect_in : List (List ℕ) → Option Statement
+disconnect_in (what ∷ []) = option_map Disconnect (cut_in what)
+disconnect_in words = None
 
 -- the words behind `input`: NAME PORT
 abbrev pub input_in : List (List ℕ) → Option Statement
-input_in (name ∷ port ∷ []) = input_of (name_in name) (port_in port)
+input_in (name ∷ port ∷ []) = of_both Input (name_in name) (port_in port)
 input_in words = None
-
--- an output of its two parts, where each is one
-abbrev pub output_of : Option End → Option (List ℕ) → Option Statement
-output_of (Some port) (Some name) = Some (Output port name)
-output_of (Some port) None = None
-output_of None name = None
 
 -- the words behind `output`: PORT NAME
 abbrev pub output_in : List (List ℕ) → Option Statement
-output_in (port ∷ name ∷ []) = output_of (port_in port) (name_in name)
+output_in (port ∷ name ∷ []) = of_both Output (port_in port) (name_in name)
 output_in words = None
+
+-- the words behind `pin`: NAME NUMBER
+abbrev pub pin_in : List (List ℕ) → Option Statement
+pin_in (name ∷ leaf ∷ []) = of_both Pin (name_in name) (short_number_in leaf)
+pin_in words = None
+
+-- the words behind `unpin`: NAME
+abbrev pub unpin_in : List (List ℕ) → Option Statement
+unpin_in words = option_map Unpin (only_name_in words)
+
+-- the words behind `pages`: NUMBER
+abbrev pub pages_in : List (List ℕ) → Option Statement
+pages_in (count ∷ []) = option_map Pages (page_count_in count)
+pages_in words = None
 
 -- a number in front of others, where each is one
 abbrev pub with_number : Option ℕ → Option (List ℕ) → Option (List ℕ)
@@ -107,53 +162,76 @@ abbrev pub numbers_in : List (List ℕ) → Option (List ℕ)
 numbers_in [] = Some []
 numbers_in (word ∷ words) = with_number (word_in word) (numbers_in words)
 
--- a feed of its two parts, where each is one
-abbrev pub feed_of : Option (List ℕ) → Option (List ℕ) → Option Statement
-feed_of (Some name) (Some numbers) = Some (Feed name numbers)
-feed_of (Some name) None = None
-feed_of None numbers = None
-
 -- the words behind `feed`: NAME { WORD }
 abbrev pub feed_in : List (List ℕ) → Option Statement
 feed_in [] = None
-feed_in (name ∷ words) = feed_of (name_in name) (numbers_in words)
+feed_in (name ∷ words) = of_both Feed (name_in name) (numbers_in words)
+
+-- the words behind `clear`: NAME
+abbrev pub clear_in : List (List ℕ) → Option Statement
+clear_in words = option_map Clear (only_name_in words)
 
 -- nothing stands behind a statement's only word
 abbrev pub alone : Statement → List (List ℕ) → Option Statement
 alone statement [] = Some statement
 alone statement (word ∷ words) = None
 
+-- the words behind `dump`: `image` NAME
+abbrev pub dump_in : List (List ℕ) → Option Statement
+dump_in [] = None
+dump_in (what ∷ words) = if bytes_eq what (codes "image") then option_map DumpImage (only_name_in words) else None
+
+-- orders to the host, by their first word and those behind it
+abbrev pub order_in : List ℕ → List (List ℕ) → Option Statement
+order_in first words =
+    if bytes_eq first (codes "build") then alone Build words
+    else if bytes_eq first (codes "run") then alone Run words
+    else if bytes_eq first (codes "dump") then dump_in words
+    else if bytes_eq first (codes "quit") then alone Quit words
+    else None
+
+-- edits of the design, and orders
+abbrev pub edit_in : List ℕ → List (List ℕ) → Option Statement
+edit_in first words =
+    if bytes_eq first (codes "remove") then remove_in words
+    else if bytes_eq first (codes "connect") then connect_in words
+    else if bytes_eq first (codes "disconnect") then disconnect_in words
+    else if bytes_eq first (codes "input") then input_in words
+    else if bytes_eq first (codes "output") then output_in words
+    else if bytes_eq first (codes "pin") then pin_in words
+    else if bytes_eq first (codes "unpin") then unpin_in words
+    else if bytes_eq first (codes "pages") then pages_in words
+    else order_in first words
+
 -- the statement of a line with these words, None where it is in no statement's grammar
 abbrev pub statement_in : List (List ℕ) → Option Statement
 statement_in [] = None
 statement_in (first ∷ words) =
-    if bytes_eq first (codes "input") then input_in words
-    else if bytes_eq first (codes "output") then output_in words
-    else if bytes_eq first (codes "feed") then feed_in words
-    else if bytes_eq first (codes "build") then alone Build words
-    else if bytes_eq first (codes "run") then alone Run words
-    else if bytes_eq first (codes "quit") then alone Quit words
-    else None
+    if bytes_eq first (codes "feed") then feed_in words
+    else if bytes_eq first (codes "clear") then clear_in words
+    else edit_in first words
 
 -- the statement of a line that opens no text, None for a bad line
 abbrev pub line_statement : List ℕ → Option Statement
 line_statement line = statement_in (words_of line)
 
--- an operator of its parts, where each is one
-abbrev pub op_of : Option (List ℕ) → Option Kind → List ℕ → Option Statement
-op_of (Some name) (Some kind) text = Some (Op name kind text)
-op_of (Some name) None text = None
-op_of None kind text = None
-
 -- the words behind `op`: NAME KIND
 abbrev pub op_in : List (List ℕ) → List ℕ → Option Statement
-op_in (name ∷ kind ∷ []) text = op_of (name_in name) (page_kind_in kind) text
+op_in (name ∷ kind ∷ []) text = of_both (λ n k. Op n k text) (name_in name) (page_kind_in kind)
 op_in words text = None
+
+-- the words behind `replace`: NAME KIND
+abbrev pub replace_in : List (List ℕ) → List ℕ → Option Statement
+replace_in (name ∷ kind ∷ []) text = of_both (λ n k. Replace n k text) (name_in name) (page_kind_in kind)
+replace_in words text = None
 
 -- the statement of a line with these words and of the text that it opens, None where they are in no statement's grammar
 abbrev pub statement_with : List (List ℕ) → List ℕ → Option Statement
 statement_with [] text = None
-statement_with (first ∷ words) text = if bytes_eq first (codes "op") then op_in words text else None
+statement_with (first ∷ words) text =
+    if bytes_eq first (codes "op") then op_in words text
+    else if bytes_eq first (codes "replace") then replace_in words text
+    else None
 
 -- the statement of a line that opens a text, with the bytes of that text, None for a bad line
 abbrev pub text_statement : List ℕ → List ℕ → Option Statement

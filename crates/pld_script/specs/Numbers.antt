@@ -39,6 +39,10 @@ abbrev pub negative_of : Option ℕ → Option ℕ
 negative_of None = None
 negative_of (Some n) = if nat_le n (2 ^ 31) then Some (negated n) else None
 
+-- the value of one to three decimal digits
+abbrev pub short_number_in : List ℕ → Option ℕ
+short_number_in word = if nat_le (length word) 3 then number_in 10 word else None
+
 -- one to eight hexadecimal digits, whose value is below 2^32
 abbrev pub hexadecimal_in : List ℕ → Option ℕ
 hexadecimal_in digits = if nat_le (length digits) 8 then unsigned_of (number_in 16 digits) else None

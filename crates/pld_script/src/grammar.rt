@@ -2,12 +2,13 @@
 
 ghost use Rattle.std.specs.Prelude.{◌≡◌, ◌+◌, IfOk, MatchOption, None, ◌∷◌, [], length};
 ghost use Rattle.pld_script.specs.Words.{words_of};
-ghost use Rattle.pld_script.specs.Grammar.{page_kind_in, side_in, port_number_in, port_of as port_at, port_in, input_in, output_in, feed_in, numbers_in, two_in, alone as alone_in, statement_in, op_in, line_statement, text_statement};
+ghost use Rattle.pld_script.specs.Grammar.{page_kind_in, side_in, port_number_in, port_of as port_at, port_in, page_count_in, has_dot as holds_dot, cut_in, only_in, two_in, only_name_in, connect_in, disconnect_in, input_in, output_in, pin_in, pages_in, numbers_in, feed_in, alone as alone_in, clear_in, remove_in, unpin_in, dump_in, order_in, edit_in, statement_in, op_in, replace_in, line_statement, text_statement};
 
-use super::line::{is_only_word, split_word};
-use super::number::word_of;
+use super::line::split_word;
+use super::number::{short_number_of, word_of};
 use super::{Statement, Text, WordList};
 use pld_base::{End, Kind, Name, NoMemory, PortNo, Side};
+use pld_graph::Cut;
 use std::alloc::Global;
 
 fn page_kind_of(word: &[u8]) -> Option<Kind>
@@ -15,6 +16,8 @@ fn page_kind_of(word: &[u8]) -> Option<Kind>
 {
     if word == b"soft".as_slice() {
         Some(Kind::Soft)
+    } else if word == b"hard".as_slice() {
+        Some(Kind::Hard)
     } else {
         None
     }
@@ -61,6 +64,44 @@ fn port_of(word: &[u8]) -> Option<End>
     port_behind(name, tail)
 }
 
+/// A number of pages, from 1 to 6.
+fn page_count_of(word: &[u8]) -> Option<u8>
+    ensures { result ≡ page_count_in word.now }
+{
+    match short_number_of(word)? {
+        count @ 1..=6 => Some(count as u8),
+        _ => None,
+    }
+}
+
+fn has_dot(word: &[u8]) -> bool
+    ensures { result ≡ holds_dot word.now }
+{
+    word.iter().any(|b| *b == b'.')
+}
+
+/// What is to be disconnected: a word with a dot has to be a port, any other one a name.
+fn cut_of(word: &[u8]) -> Option<Cut>
+    ensures { result ≡ cut_in word.now }
+{
+    if has_dot(word) {
+        Some(Cut::Port(port_of(word)?))
+    } else {
+        Some(Cut::Host(Name::of(word)?))
+    }
+}
+
+/// The word of the line, where there is one.
+fn only_word(line: &[u8]) -> Option<&[u8]>
+    ensures { MatchOption result (only_in (words_of line.now) ≡ None) (λ word. words_of line.now ≡ word.now ∷ []) }
+{
+    let (word, behind) = split_word(line)?;
+    match split_word(behind) {
+        None => Some(word),
+        Some(_) => None,
+    }
+}
+
 /// The words of the line, where there are two.
 fn two_words(line: &[u8]) -> Option<(&[u8], &[u8])>
     ensures { MatchOption result (two_in (words_of line.now) ≡ None) (λ found. words_of line.now ≡ found.0.now ∷ found.1.now ∷ []) }
@@ -71,6 +112,32 @@ fn two_words(line: &[u8]) -> Option<(&[u8], &[u8])>
         None => Some((first, second)),
         Some(_) => None,
     }
+}
+
+/// The name, where the line has one word, and it is one.
+fn only_name(line: &[u8]) -> Option<Name>
+    ensures { result ≡ only_name_in (words_of line.now) }
+{
+    Name::of(only_word(line)?)
+}
+
+fn remove_of(line: &[u8]) -> Option<Statement>
+    ensures { result ≡ remove_in (words_of line.now) }
+{
+    Some(Statement::Remove(only_name(line)?))
+}
+
+fn connect_of(line: &[u8]) -> Option<Statement>
+    ensures { result ≡ connect_in (words_of line.now) }
+{
+    let (from, to) = two_words(line)?;
+    Some(Statement::Connect(port_of(from)?, port_of(to)?))
+}
+
+fn disconnect_of(line: &[u8]) -> Option<Statement>
+    ensures { result ≡ disconnect_in (words_of line.now) }
+{
+    Some(Statement::Disconnect(cut_of(only_word(line)?)?))
 }
 
 fn input_of(line: &[u8]) -> Option<Statement>
@@ -85,6 +152,25 @@ fn output_of(line: &[u8]) -> Option<Statement>
 {
     let (port, name) = two_words(line)?;
     Some(Statement::Output(port_of(port)?, Name::of(name)?))
+}
+
+fn pin_of(line: &[u8]) -> Option<Statement>
+    ensures { result ≡ pin_in (words_of line.now) }
+{
+    let (name, leaf) = two_words(line)?;
+    Some(Statement::Pin(Name::of(name)?, short_number_of(leaf)?))
+}
+
+fn unpin_of(line: &[u8]) -> Option<Statement>
+    ensures { result ≡ unpin_in (words_of line.now) }
+{
+    Some(Statement::Unpin(only_name(line)?))
+}
+
+fn pages_of(line: &[u8]) -> Option<Statement>
+    ensures { result ≡ pages_in (words_of line.now) }
+{
+    Some(Statement::Pages(page_count_of(only_word(line)?)?))
 }
 
 /// The values of the words of the line. None where one is no number.
@@ -118,6 +204,12 @@ fn feed_of(alloc: Global, line: &[u8]) -> Result<Option<Statement>, NoMemory>
     }
 }
 
+fn clear_of(line: &[u8]) -> Option<Statement>
+    ensures { result ≡ clear_in (words_of line.now) }
+{
+    Some(Statement::Clear(only_name(line)?))
+}
+
 /// The statement, where no word stands in the line.
 fn alone(statement: Statement, line: &[u8]) -> Option<Statement>
     ensures { result ≡ alone_in statement (words_of line.now) }
@@ -128,24 +220,69 @@ fn alone(statement: Statement, line: &[u8]) -> Option<Statement>
     }
 }
 
+fn dump_of(line: &[u8]) -> Option<Statement>
+    ensures { result ≡ dump_in (words_of line.now) }
+{
+    let (what, rest) = split_word(line)?;
+    if what == b"image".as_slice() {
+        Some(Statement::DumpImage(only_name(rest)?))
+    } else {
+        None
+    }
+}
+
+/// An order to the host whose first word is this one, with this behind it.
+fn order_of(first: &[u8], rest: &[u8]) -> Option<Statement>
+    ensures { result ≡ order_in first.now (words_of rest.now) }
+{
+    if first == b"build".as_slice() {
+        alone(Statement::Build, rest)
+    } else if first == b"run".as_slice() {
+        alone(Statement::Run, rest)
+    } else if first == b"dump".as_slice() {
+        dump_of(rest)
+    } else if first == b"quit".as_slice() {
+        alone(Statement::Quit, rest)
+    } else {
+        None
+    }
+}
+
+/// An edit of the design, or an order, whose first word is this one, with this behind it.
+fn edit_of(first: &[u8], rest: &[u8]) -> Option<Statement>
+    ensures { result ≡ edit_in first.now (words_of rest.now) }
+{
+    if first == b"remove".as_slice() {
+        remove_of(rest)
+    } else if first == b"connect".as_slice() {
+        connect_of(rest)
+    } else if first == b"disconnect".as_slice() {
+        disconnect_of(rest)
+    } else if first == b"input".as_slice() {
+        input_of(rest)
+    } else if first == b"output".as_slice() {
+        output_of(rest)
+    } else if first == b"pin".as_slice() {
+        pin_of(rest)
+    } else if first == b"unpin".as_slice() {
+        unpin_of(rest)
+    } else if first == b"pages".as_slice() {
+        pages_of(rest)
+    } else {
+        order_of(first, rest)
+    }
+}
+
 /// What a line says whose first word is this one, with this behind it.
 fn said_behind(alloc: Global, first: &[u8], rest: &[u8]) -> Result<Option<Statement>, NoMemory>
     ensures { IfOk result (λ said. said ≡ statement_in (first.now ∷ words_of rest.now)) }
 {
-    if first == b"input".as_slice() {
-        Ok(input_of(rest))
-    } else if first == b"output".as_slice() {
-        Ok(output_of(rest))
-    } else if first == b"feed".as_slice() {
+    if first == b"feed".as_slice() {
         feed_of(alloc, rest)
-    } else if first == b"build".as_slice() {
-        Ok(alone(Statement::Build, rest))
-    } else if first == b"run".as_slice() {
-        Ok(alone(Statement::Run, rest))
-    } else if first == b"quit".as_slice() {
-        Ok(alone(Statement::Quit, rest))
+    } else if first == b"clear".as_slice() {
+        Ok(clear_of(rest))
     } else {
-        Ok(None)
+        Ok(edit_of(first, rest))
     }
 }
 
@@ -166,6 +303,13 @@ fn op_of(line: &[u8], text: Vec<u8>) -> Option<Statement>
     Some(Statement::Op(Name::of(name)?, page_kind_of(kind)?, Text::of(text)))
 }
 
+fn replace_of(line: &[u8], text: Vec<u8>) -> Option<Statement>
+    ensures { result ≡ replace_in (words_of line.now) text.items }
+{
+    let (name, kind) = two_words(line)?;
+    Some(Statement::Replace(Name::of(name)?, page_kind_of(kind)?, Text::of(text)))
+}
+
 /// What a line that opens a text says, with its text. None where it is in no statement's grammar.
 pub fn said_with(head: &[u8], text: Vec<u8>) -> Option<Statement>
     ensures { result ≡ text_statement head.now text.items }
@@ -173,6 +317,8 @@ pub fn said_with(head: &[u8], text: Vec<u8>) -> Option<Statement>
     let (first, rest) = split_word(head)?;
     if first == b"op".as_slice() {
         op_of(rest, text)
+    } else if first == b"replace".as_slice() {
+        replace_of(rest, text)
     } else {
         None
     }

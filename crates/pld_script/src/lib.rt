@@ -7,6 +7,8 @@ mod next;
 mod number;
 mod scan;
 mod statement;
+#[cfg(test)]
+mod tests;
 mod text;
 
 pub use line::LineKind;

@@ -1,7 +1,7 @@
 //! Numbers, as words of a line.
 
 ghost use Rattle.std.specs.Prelude.{◌≡◌, ◌≤◌, ◌<◌, ◌^◌, MatchOption, None, Some, IfSome};
-ghost use Rattle.pld_script.specs.Numbers.{below as below_of, digit_in, number_in, capped, unsigned_of, negative_of, hexadecimal_in, word_in};
+ghost use Rattle.pld_script.specs.Numbers.{below as below_of, digit_in, number_in, capped, unsigned_of, negative_of, hexadecimal_in, short_number_in, word_in};
 
 /// The first value that no word has: values from here on need not be told apart.
 const TOO_LARGE: u64 = 0x1_0000_0000;
@@ -84,6 +84,16 @@ fn hexadecimal(digits: &[u8]) -> Option<u32>
     } else {
         None
     }
+}
+
+/// The value of one to three decimal digits, which is below 1,000. None where the word is anything else.
+pub fn short_number_of(word: &[u8]) -> Option<u16>
+    ensures { result ≡ short_number_in word.now }
+{
+    if word.len() > 3 {
+        return None;
+    }
+    Some(number(10, word)? as u16)
 }
 
 /// The value of a number: decimal digits with a value below 2^32, a minus sign and decimal digits

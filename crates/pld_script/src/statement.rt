@@ -2,22 +2,42 @@
 
 use super::{Text, WordList};
 use pld_base::{End, Kind, Name};
+use pld_graph::Cut;
 
 /// A statement of a session's text.
 #[derive(Drop)]
 pub enum Statement {
-    /// `op NAME KIND`, with the operator's text: the bytes of its lines, each with a line end (byte 10).
+    /// `op NAME KIND`: an operator, with its text: the bytes of its lines, each with a line end (byte 10).
     Op(Name, Kind, Text),
+    /// `replace NAME KIND`: the operator of this name gets another kind and text.
+    Replace(Name, Kind, Text),
+    /// `remove NAME`: the operator of this name goes.
+    Remove(Name),
+    /// `connect PORT PORT`: a channel from the first port to the second.
+    Connect(End, End),
+    /// `disconnect PORT`: the channel at this port goes. `disconnect NAME`: the input or output of this name goes.
+    Disconnect(Cut),
     /// `input NAME PORT`: an input of the network, and the in-port that it feeds.
     Input(Name, End),
     /// `output PORT NAME`: an out-port, and the output of the network that it feeds.
     Output(End, Name),
+    /// `pin NAME NUMBER`: the operator shall stand at this leaf. The number is below 1,000; whether there is such a leaf
+    /// isn't asked here.
+    Pin(Name, u16),
+    /// `unpin NAME`: the operator may stand at any leaf.
+    Unpin(Name),
+    /// `pages NUMBER`: the depth of the tree, 1 to 6: it has two to the power of that many leaves.
+    Pages(u8),
     /// `feed NAME { WORD }`: words for an input. There may be none.
     Feed(Name, WordList),
+    /// `clear NAME`: the words that were fed to this input go.
+    Clear(Name),
     /// `build`
     Build,
     /// `run`
     Run,
+    /// `dump image NAME`: the image of the operator of this name.
+    DumpImage(Name),
     /// `quit`: the session ends here, and nothing behind it is looked at.
     Quit,
 }

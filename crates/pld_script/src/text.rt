@@ -1,7 +1,8 @@
 //! Bytes and words that contracts see as lists.
 
-ghost use Rattle.std.specs.Prelude.{◌≡◌, ◌↔◌, [], length, IsTrue};
+ghost use Rattle.std.specs.Prelude.{◌≡◌, ◌↔◌, ◌++◌, [], length, IsTrue, MatchResult};
 
+use pld_base::NoMemory;
 use std::marker::Model;
 
 /// The text of an operator: its bytes.
@@ -61,6 +62,21 @@ impl WordList {
         ensures { result.now ≡ self.now }
     {
         self.words.as_slice()
+    }
+
+    /// Appends words; where memory is wanting, the list stays.
+    pub fn append(&mut self, more: &WordList) -> Result<(), NoMemory>
+        ensures { MatchResult result (λ _done. self.new ≡ self.old ++ more.now) (λ _e. self.new ≡ self.old) }
+    {
+        self.words.extend_from_slice(more.words.as_slice())?;
+        Ok(())
+    }
+
+    /// Takes all words away.
+    pub fn clear(&mut self)
+        ensures { self.new ≡ [] }
+    {
+        self.words.clear();
     }
 
     /// How many words there are.
