@@ -7,7 +7,7 @@ use Rattle.pld_base.specs.declared.event.Side.{Side}
 use Rattle.pld_base.specs.declared.event.Side.TheVariants.{In, Out}
 use Rattle.pld_graph.specs.declared.parts.Channel.{Channel}
 use Rattle.pld_graph.specs.declared.parts.OperatorEntry.{OperatorEntry}
-use Rattle.pld_graph.specs.Parts.{same_end, is_below, stands_at, is_host, from_input, to_output}
+use Rattle.pld_graph.specs.Parts.{same_end, is_below, stands_at, is_host, from_input, to_output, passes}
 
 -- Operators and channels stand in the order of their declaration. An input or an output stands just as long
 -- as its channel, so the channels tell which there are, in the order of their declaration too.
@@ -48,6 +48,14 @@ inputs cs = filter_map (λ c. from_input c.from) cs
 
 abbrev pub outputs : List Channel → List (List ℕ)
 outputs cs = filter_map (λ c. to_output c.to) cs
+
+-- the channel comes from the input of this name
+abbrev pub comes_from : List ℕ → Channel → Bool
+comes_from name c = passes (λ n. bytes_eq n name) (from_input c.from)
+
+-- an input has this name
+abbrev pub is_input : List ℕ → List Channel → Bool
+is_input name cs = list_any (comes_from name) cs
 
 -- an operator, an input or an output has this name
 abbrev pub is_named : List ℕ → Design → Bool

@@ -1,10 +1,10 @@
 //! A design that is edited.
 
-ghost use Rattle.std.specs.Prelude.{◌≡◌, OnOk, ◌<◌, ◌≤◌, Some, None, length, slice_get, MatchResult};
+ghost use Rattle.std.specs.Prelude.{◌≡◌, OnOk, ◌<◌, ◌≤◌, Some, None, length, slice_get, IfSome, MatchResult};
 ghost use Rattle.pld_base.specs.declared.event.Side.TheVariants.{In, Out};
 ghost use Rattle.pld_base.specs.declared.memory.Refused.TheVariants as refused;
 ghost use Rattle.pld_graph.specs.declared.parts.GraphFault.TheVariants.{NameTaken};
-ghost use Rattle.pld_graph.specs.Design.{Design, fresh, place_of as place_in, operator_at, pin_in, is_named, inputs as inputs_of, outputs as outputs_of, has_port, open_port};
+ghost use Rattle.pld_graph.specs.Design.{Design, fresh, place_of as place_in, operator_at, pin_in, is_named, inputs as inputs_of, outputs as outputs_of, is_input as is_input_of, has_port, open_port};
 ghost use Rattle.pld_graph.specs.Sound.{IsSound};
 ghost use Rattle.pld_graph.specs.Edits.{when, with_channel, add_refusal, added, replaced, removed, connect_refusal, connected, with_input, with_output, disconnected, cut_refusal, pinned, unpinned, repaged, unknown, misdirected, lacking, taken, full, host_refusal, fault_in, Edits, Tries};
 
@@ -146,8 +146,8 @@ impl Graph {
         }
     }
 
-    // The tests of `add`.
-    fn may_add(&self, name: &Name) -> Result<(), GraphFault>
+    /// Whether an operator of this name may be added: `NameTaken` and `TooMany` as in `add`.
+    pub fn may_add(&self, name: &Name) -> Result<(), GraphFault>
         ensures { fault_in result ≡ add_refusal name.now self.now }
     {
         self.free(name)?;
@@ -391,6 +391,21 @@ impl Graph {
     {
         let o = &self.operators[k];
         (o.name, o.ins, o.outs)
+    }
+
+    /// The place of the operator of this name in the order of declaration. None where no operator has it.
+    pub fn place_of(&self, name: &Name) -> Option<usize>
+        ensures place { result ≡ place_in name.now self.now }
+        ensures within { IfSome result (λ k. k < length self.now.operators) }
+    {
+        looks::place_of(&self.operators, name)
+    }
+
+    /// Whether an input has this name.
+    pub fn is_input(&self, name: &Name) -> bool
+        ensures { result ≡ is_input_of name.now self.now.channels }
+    {
+        looks::is_input(&self.channels, name)
     }
 
     /// How many channels there are.

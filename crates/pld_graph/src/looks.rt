@@ -4,7 +4,7 @@ ghost use Rattle.std.specs.Prelude.{◌≡◌, ◌≤◌, ◌<◌, ◌^◌, not,
 ghost use Rattle.std.specs.List.{list_any, find};
 ghost use Rattle.pld_graph.specs.Parts.{same_side as same_side_of, same_end as same_end_of, on_side as on_side_of, is_below as is_below_of, is_lost as is_lost_of, is_of as is_of_operator, stands_at, is_host as is_host_of, is_cut as is_cut_of};
 ghost use Rattle.pld_graph.specs.Edits.{is_leaf, is_rival as is_rival_of, is_outside as is_outside_of};
-ghost use Rattle.pld_graph.specs.Design.{place_from, is_called, is_linked as is_linked_of, open_among, open_of, first_open as first_open_of, inputs as inputs_of, outputs as outputs_of};
+ghost use Rattle.pld_graph.specs.Design.{place_from, is_called, is_linked as is_linked_of, open_among, open_of, first_open as first_open_of, inputs as inputs_of, outputs as outputs_of, comes_from as comes_from_input, is_input as is_input_of};
 
 use crate::{Channel, Cut, FromEnd, OperatorEntry, ToEnd};
 use pld_base::{End, Name, NoMemory, PortNo, Side};
@@ -130,6 +130,23 @@ pub fn has_host(channels: &[Channel], name: &Name) -> bool
     ensures { result ≡ list_any (is_host_of name.now) channels.now }
 {
     channels.iter().any(|c| is_host(c, name))
+}
+
+// Whether the channel comes from the input of this name.
+fn comes_from(c: &Channel, name: &Name) -> bool
+    ensures { result ≡ comes_from_input name.now c.now }
+{
+    match &c.from {
+        FromEnd::Port(_) => false,
+        FromEnd::Input(n) => n.is_same(name),
+    }
+}
+
+// Whether an input has this name.
+pub fn is_input(channels: &[Channel], name: &Name) -> bool
+    ensures { result ≡ is_input_of name.now channels.now }
+{
+    channels.iter().any(|c| comes_from(c, name))
 }
 
 // Whether a channel stands at a port of this operator that these counts lack.

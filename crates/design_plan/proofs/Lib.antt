@@ -1,0 +1,4 @@
+pub mod Leaves
+pub mod Planned
+pub mod Fed
+pub mod Alike

@@ -1,0 +1,45 @@
+//! What holds of images and of what their operators mean.
+
+ghost use Rattle.std.specs.Prelude.{◌≡◌, ◌≤◌, List, length, map};
+ghost use Rattle.std.specs.List.{All, AllByRecursion};
+ghost use Rattle.pld_base.specs.Process.{IsProcess, WritesWords};
+ghost use Rattle.pld_kahn.specs.Realises.{Realises};
+ghost use Rattle.pld_ast.specs.Resolve.{program_of};
+ghost use Rattle.pld_ast.specs.Sound.{IsSound};
+ghost use Rattle.pld_image.specs.Processes.{process_of};
+ghost use Rattle.pld_draft.specs.declared.parts.Source.{Source};
+ghost use Rattle.pld_build.specs.Images.{image_of, meaning_of, distinct};
+
+use fsm_back::tables_keep_the_meaning;
+use pld_ast::operators_are_processes;
+use pld_draft::Source;
+use rv_back::words_keep_the_meaning;
+
+/// The image of a sound operator does what the operator means, whichever kind of page it is compiled for: no more, no less, it
+/// returns where that returns and starves where that starves. It writes words.
+pub fn images_keep_the_meaning()
+    ensures realises { (s : Source) → IsSound (program_of s.operator) → Realises (process_of (image_of s)) (meaning_of s) }
+    ensures writes_words { (s : Source) → IsSound (program_of s.operator) → WritesWords (process_of (image_of s)) }
+{
+    words_keep_the_meaning();
+    tables_keep_the_meaning();
+}
+
+/// What sources mean are processes with blocking reads (Kahn 1974), of sound operators.
+pub fn sources_are_processes(sources: &[Source])
+    ensures processes { AllByRecursion IsProcess (map meaning_of sources.now) }
+    ensures sound { All (λ s. IsSound (program_of s.operator)) sources.now }
+{
+    match sources {
+        [] => {}
+        [first, rest @ ..] => {
+            operators_are_processes(first.operator.operator());
+            sources_are_processes(rest);
+        }
+    }
+}
+
+/// There are no more distinct pairs than sources.
+pub fn pairs_are_few()
+    ensures { (sources : List Source) → distinct sources ≤ length sources }
+{}

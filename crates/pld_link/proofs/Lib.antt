@@ -1,0 +1,5 @@
+pub mod Places
+pub mod Filling
+pub mod Ends
+pub mod Linked
+pub mod Alike

@@ -1,0 +1,58 @@
+//! What holds of the rows of every sound design whose operators are placed.
+
+ghost use Rattle.std.specs.Prelude.{◌≡◌, ℕ, ◌+◌, ◌*◌, ◌<◌, ◌⊎◌, List, length, Some, None, IsSome, slice_index_or};
+ghost use Rattle.std.specs.List.{Contains};
+ghost use Rattle.net_switch.specs.declared.packet.Row.{Row};
+ghost use Rattle.pld_graph.specs.Design.{Design, inputs, outputs};
+ghost use Rattle.pld_graph.specs.Sound.{IsSound};
+ghost use Rattle.pld_link.specs.Seats.{IsPlacement, HasSlots, operator_names, seat};
+ghost use Rattle.pld_link.specs.Rows.{row, out_row, in_row, row_of, rows};
+
+/// Both ends of a channel name each other.
+pub fn rows_name_each_other()
+    ensures out_in { (d : Design) (leaves : List ℕ) (leaf port : ℕ) (r : Row) → IsSound d → IsPlacement d leaves
+        → out_row d leaves leaf port ≡ Some r → in_row d leaves r.leaf.0 r.port.0 ≡ Some (row (seat leaf port)) }
+    ensures in_out { (d : Design) (leaves : List ℕ) (leaf port : ℕ) (r : Row) → IsSound d → IsPlacement d leaves
+        → in_row d leaves leaf port ≡ Some r → out_row d leaves r.leaf.0 r.port.0 ≡ Some (row (seat leaf port)) }
+{}
+
+/// The host's rows are just those of the inputs and outputs.
+pub fn hosts_have_rows()
+    ensures inputs { (d : Design) (leaves : List ℕ) (k : ℕ) → IsSound d → IsPlacement d leaves
+        → k < length (inputs d.channels) → IsSome (out_row d leaves 0 k) }
+    ensures outputs { (d : Design) (leaves : List ℕ) (k : ℕ) → IsSound d → IsPlacement d leaves
+        → k < length (outputs d.channels) → IsSome (in_row d leaves 0 k) }
+    ensures no_other_input { (d : Design) (leaves : List ℕ) (k : ℕ) (r : Row) → IsSound d → IsPlacement d leaves
+        → out_row d leaves 0 k ≡ Some r → k < length (inputs d.channels) }
+    ensures no_other_output { (d : Design) (leaves : List ℕ) (k : ℕ) (r : Row) → IsSound d → IsPlacement d leaves
+        → in_row d leaves 0 k ≡ Some r → k < length (outputs d.channels) }
+{}
+
+/// Only the host's leaf and those of operators have rows.
+pub fn rows_stand_on_leaves()
+    ensures out { (d : Design) (leaves : List ℕ) (leaf port : ℕ) (r : Row) → IsSound d → IsPlacement d leaves
+        → out_row d leaves leaf port ≡ Some r → (leaf ≡ 0) ⊎ Contains leaves leaf }
+    ensures into { (d : Design) (leaves : List ℕ) (leaf port : ℕ) (r : Row) → IsSound d → IsPlacement d leaves
+        → in_row d leaves leaf port ≡ Some r → (leaf ≡ 0) ⊎ Contains leaves leaf }
+{}
+
+/// Where the operators' ports have slots, so have both ends of each channel.
+pub fn rows_have_slots()
+    ensures out { (d : Design) (leaves : List ℕ) (leaf port : ℕ) (r : Row) → IsSound d → IsPlacement d leaves → HasSlots d
+        → out_row d leaves leaf port ≡ Some r → (port < 8) × (r.port.0 < 8) }
+    ensures into { (d : Design) (leaves : List ℕ) (leaf port : ℕ) (r : Row) → IsSound d → IsPlacement d leaves → HasSlots d
+        → in_row d leaves leaf port ≡ Some r → (port < 8) × (r.port.0 < 8) }
+{}
+
+/// Slot s of leaf l is row 16·l + s, and there are no more than 1,024.
+pub fn rows_stand_in_order()
+    ensures each { (d : Design) (leaves : List ℕ) (leaf slot : ℕ) → leaf < 64 → slot < 16
+        → slice_index_or (rows d leaves) (16 * leaf + slot) None ≡ row_of d leaves leaf slot }
+    ensures all { (d : Design) (leaves : List ℕ) → length (rows d leaves) ≡ 1024 }
+{}
+
+/// Pins, the depth of the tree and the operators' counts of ports make no difference to the rows.
+pub fn rows_follow_the_channels()
+    ensures { (d other : Design) (leaves : List ℕ) → d.channels ≡ other.channels → operator_names d ≡ operator_names other
+        → rows d leaves ≡ rows other leaves }
+{}

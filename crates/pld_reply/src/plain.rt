@@ -1,0 +1,25 @@
+//! The replies to statements that are done.
+
+ghost use Rattle.std.specs.Prelude.{◌≡◌, ◌++◌, OnOk, decimal, codes};
+ghost use Rattle.pld_reply.specs.Replies.{ok_reply, built_reply};
+
+use crate::put::{put_number, put_text};
+use pld_base::NoMemory;
+
+/// Writes the line `ok`.
+pub fn put_ok(reply: &mut Vec<u8>) -> Result<(), NoMemory>
+    ensures { OnOk result (reply.new.items ≡ reply.old.items ++ ok_reply) }
+{
+    put_text(reply, b"ok\n")
+}
+
+/// Writes the line `built N compiled K`: N operators stand, and K of their images were made by this build.
+pub fn put_built(reply: &mut Vec<u8>, operators: u64, compiled: u64) -> Result<(), NoMemory>
+    ensures { OnOk result (reply.new.items ≡ reply.old.items ++ built_reply operators compiled) }
+{
+    put_text(reply, b"built ")?;
+    put_number(reply, operators)?;
+    put_text(reply, b" compiled ")?;
+    put_number(reply, compiled)?;
+    put_text(reply, b"\n")
+}

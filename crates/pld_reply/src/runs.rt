@@ -1,0 +1,121 @@
+//! The reply to a run.
+
+ghost use Rattle.std.specs.Prelude.{◌≡◌, ◌++◌, OnOk, decimal, codes, length};
+ghost use Rattle.direct_world.specs.Kept.{state_of};
+ghost use Rattle.direct_world.specs.Replay.{outcome, blocked};
+ghost use Rattle.direct_world.specs.World.{out_at};
+ghost use Rattle.direct_world.specs.Reply.{outcome_line, at_line, at_lines, out_line, spaced, lines_below, name_in, reply as run_reply};
+
+use crate::put::{put_number, put_text};
+use direct_world::{Blocked, Outcome, World};
+use pld_base::{Name, NoMemory, Side};
+
+/// Writes how a run ended.
+fn put_outcome(reply: &mut Vec<u8>, rounds: u64, end: Option<Outcome>) -> Result<(), NoMemory>
+    ensures { OnOk result (reply.new.items ≡ reply.old.items ++ outcome_line end rounds) }
+{
+    match end {
+        None => Ok(()),
+        Some(Outcome::Done) => put_text(reply, b"done\n"),
+        Some(Outcome::Stalled) => put_text(reply, b"stalled\n"),
+        Some(Outcome::Spent) => {
+            put_text(reply, b"spent ")?;
+            put_number(reply, rounds)?;
+            put_text(reply, b"\n")
+        }
+    }
+}
+
+/// Writes the port at which an operator stands, if it stands at one.
+fn put_port(reply: &mut Vec<u8>, name: &Name, at: Option<Blocked>) -> Result<(), NoMemory>
+    ensures { OnOk result (reply.new.items ≡ reply.old.items ++ at_line name.now at) }
+{
+    let Some(at) = at else {
+        return Ok(());
+    };
+    put_text(reply, b"at ")?;
+    put_text(reply, name.as_bytes())?;
+    match at.side {
+        Side::In => {
+            put_text(reply, b".i")?;
+            put_number(reply, u64::from(at.port.0))?;
+            put_text(reply, b" empty\n")
+        }
+        Side::Out => {
+            put_text(reply, b".o")?;
+            put_number(reply, u64::from(at.port.0))?;
+            put_text(reply, b" full\n")
+        }
+    }
+}
+
+/// Writes each word behind a space.
+fn put_words(reply: &mut Vec<u8>, words: &[u32]) -> Result<(), NoMemory>
+    ensures { OnOk result (reply.new.items ≡ reply.old.items ++ spaced words.now) }
+{
+    for word in words {
+        put_text(reply, b" ")?;
+        put_number(reply, u64::from(*word))?;
+    }
+    Ok(())
+}
+
+/// Writes the words of an output.
+fn put_out(reply: &mut Vec<u8>, name: &Name, words: &[u32]) -> Result<(), NoMemory>
+    ensures { OnOk result (reply.new.items ≡ reply.old.items ++ out_line name.now words.now) }
+{
+    put_text(reply, b"out ")?;
+    put_text(reply, name.as_bytes())?;
+    put_text(reply, b" ")?;
+    put_number(reply, words.len() as u64)?;
+    put_words(reply, words)?;
+    put_text(reply, b"\n")
+}
+
+/// Writes the ports at which the operators stand, where the run is stalled.
+fn put_ports(reply: &mut Vec<u8>, names: &[Name], world: &World) -> Result<(), NoMemory>
+    ensures { OnOk result (reply.new.items ≡ reply.old.items ++ at_lines (name_in names.now) (outcome world.now.plan (state_of world.now)) (blocked (state_of world.now)) (length names.now)) }
+{
+    match world.over() {
+        None => Ok(()),
+        Some(Outcome::Done) => Ok(()),
+        Some(Outcome::Stalled) => put_stalled(reply, names, world),
+        Some(Outcome::Spent) => Ok(()),
+    }
+}
+
+/// Writes the ports at which the operators stand.
+fn put_stalled(reply: &mut Vec<u8>, names: &[Name], world: &World) -> Result<(), NoMemory>
+    ensures { OnOk result (reply.new.items ≡ reply.old.items ++ lines_below (λ k. at_line (name_in names.now k) (blocked (state_of world.now) k)) (length names.now)) }
+{
+    for k in 0..names.len() {
+        put_port(reply, &names[k], world.blocked(k))?;
+    }
+    Ok(())
+}
+
+/// Writes the words of the outputs.
+fn put_outs(reply: &mut Vec<u8>, outputs: &[Name], world: &World) -> Result<(), NoMemory>
+    ensures { OnOk result (reply.new.items ≡ reply.old.items ++ lines_below (λ k. out_line (name_in outputs.now k) (out_at (state_of world.now) k)) (length outputs.now)) }
+{
+    for k in 0..outputs.len() {
+        put_out(reply, &outputs[k], world.out(k))?;
+    }
+    Ok(())
+}
+
+/// Writes the reply to a run.
+pub fn put_run(
+    reply: &mut Vec<u8>,
+    names: &[Name],
+    outputs: &[Name],
+    world: &World,
+) -> Result<(), NoMemory>
+    requires names { length names.now ≡ length world.now.plan.pages }
+    requires outputs { length outputs.now ≡ world.now.plan.outs }
+    ensures { OnOk result (reply.new.items ≡ reply.old.items ++ run_reply (name_in names.now) (name_in outputs.now) world.now.plan (state_of world.now)) }
+{
+    put_outcome(reply, world.plan().rounds(), world.over())?;
+    put_ports(reply, names, world)?;
+    put_outs(reply, outputs, world)
+}
