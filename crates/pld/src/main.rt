@@ -65,6 +65,8 @@ fn main(rt: HostRuntime) -> ExitCode {
 }
 
 #[cfg(test)]
+mod designs;
+#[cfg(test)]
 mod rows;
 #[cfg(test)]
 mod tests;

@@ -1,188 +1,68 @@
-//! Operators, built as trees, that are run by their plain meaning and, compiled, on the softcore. Both
-//! write the same words, which stand here worked out by hand.
+//! Operators that are run by their plain meaning and, compiled for both kinds of page, turn by turn. All three write the
+//! same words, which stand here worked out by hand.
 
-use pld_ast::{Array, BinOp, Expr, Operator, Port, Scalar, Stmt, Target, Ty, UnOp, Used};
-use pld_base::{Event, Name, NoMemory, Permits, Place, Side};
+use fsm_back::compile_hard;
+use pld_base::{Event, Kind, NoMemory, Permits, Refused};
 use pld_check::Checked;
-use pld_image::{PageCore, TurnEnd};
+use pld_image::{Image, PageCore, TurnEnd};
 use pld_mean::run_c;
+use pld_source::read_operator;
 use rv_back::compile_soft;
-use sqlite_items::{Boxed, Items};
 use std::alloc::Global;
 use std::test::Fail;
 
-const AT: Place = Place { line: 1, column: 1 };
+/// An operator's text, the words of its in-ports, one list for each, and the words that it writes.
+type Row = (&'static [u8], &'static [u32], &'static [u32]);
 
-fn used(name: &Name) -> Used {
-    Used {
-        name: *name,
-        at: AT,
+const DIVIDES: &[u8] = b"void f(in a, out b) {
+  int32_t x; int32_t y; uint32_t u; uint32_t v;
+  while (1) {
+    x = read(a); y = read(a); u = x; v = y;
+    write(b, x / y); write(b, x % y); write(b, u / v); write(b, u % v);
+  }
+}
+";
+
+const INDEXES: &[u8] = b"void f(in a, out b) {
+  uint32_t t[1]; uint32_t u[3]; uint32_t v[4];
+  t[0] = 5; u[0] = 10; u[1] = 11; u[2] = 12; v[0] = 20; v[1] = 21; v[2] = 22; v[3] = 23;
+  write(b, t[-1]); write(b, t[1]); write(b, u[-1]); write(b, u[3]); write(b, v[-1]); write(b, v[4]);
+}
+";
+
+const LITERALS: &[u8] = b"void f(in a, out b) {
+  write(b, 2147483647 < 2147483648); write(b, 0 - 1 < 2147483648);
+  write(b, 0 - 1 < 2147483647); write(b, 4294967295);
+}
+";
+
+const SHIFTS: &[u8] = b"void f(in a, out b) {
+  int32_t x; uint32_t u;
+  x = read(a); u = x;
+  write(b, x >> 1); write(b, u >> 1); write(b, x << 33); write(b, x >= 0 - 8); write(b, u >= 8); write(b, !x || u && 1);
+}
+";
+
+const CHOICES: &[u8] = b"void f(in a, out b) {
+  int32_t i; int32_t t[2];
+  for (i = 0; i < 4; i++) {
+    if (i == 1) { t[i] = read(a); } else if (i == 2) { t[i] += 7; write(b, t[0]); } else { write(b, ~i); }
+  }
+  write(b, t[1]);
+  return;
+  write(b, 9);
+}
+";
+
+fn operator(alloc: Global, text: &[u8]) -> Result<Option<Checked>, NoMemory> {
+    match read_operator(alloc, text) {
+        Ok(op) => Ok(Some(op)),
+        Err(Refused::Fault(_)) => Ok(None),
+        Err(Refused::NoMemory) => Err(NoMemory),
     }
 }
 
-fn var(name: &Name) -> Expr {
-    Expr::Var(used(name))
-}
-
-fn int(v: u32) -> Expr {
-    Expr::Lit(v, Ty::Int)
-}
-
-fn pair(alloc: Global, o: BinOp, a: Expr, b: Expr) -> Result<Expr, NoMemory> {
-    Ok(Expr::Binary(o, Boxed::new(alloc, a)?, Boxed::new(alloc, b)?))
-}
-
-fn as_uint(alloc: Global, a: Expr) -> Result<Expr, NoMemory> {
-    Ok(Expr::Cast(Ty::Uint, Boxed::new(alloc, a)?))
-}
-
-fn minus(alloc: Global, v: u32) -> Result<Expr, NoMemory> {
-    Ok(Expr::Unary(UnOp::Neg, Boxed::new(alloc, int(v))?))
-}
-
-/// The names of the operators here: in-port a, out-port b, scalars x and y, arrays t, u, v.
-#[derive(Clone, Copy)]
-struct Names {
-    f: Name,
-    a: Name,
-    b: Name,
-    x: Name,
-    y: Name,
-    t: Name,
-    u: Name,
-    v: Name,
-}
-
-fn all_names() -> Option<Names> {
-    Some(Names {
-        f: Name::of(b"f")?,
-        a: Name::of(b"a")?,
-        b: Name::of(b"b")?,
-        x: Name::of(b"x")?,
-        y: Name::of(b"y")?,
-        t: Name::of(b"t")?,
-        u: Name::of(b"u")?,
-        v: Name::of(b"v")?,
-    })
-}
-
-fn port(name: &Name, side: Side) -> Port {
-    Port {
-        name: *name,
-        side,
-        at: AT,
-    }
-}
-
-fn scalar(name: &Name) -> Scalar {
-    Scalar {
-        name: *name,
-        ty: Ty::Int,
-        at: AT,
-    }
-}
-
-fn array(name: &Name, len: u32) -> Array {
-    Array {
-        name: *name,
-        ty: Ty::Uint,
-        len,
-        at: AT,
-    }
-}
-
-// void f(in a, out b) { int32_t x, y; uint32_t t[1], u[3], v[4]; .. }
-fn operator(alloc: Global, n: &Names, body: Items<Stmt>) -> Result<Operator, NoMemory> {
-    let ports = [port(&n.a, Side::In), port(&n.b, Side::Out)];
-    let scalars = [scalar(&n.x), scalar(&n.y)];
-    let arrays = [array(&n.t, 1), array(&n.u, 3), array(&n.v, 4)];
-    Ok(Operator {
-        name: n.f,
-        at: AT,
-        ports: Items::from_slice(alloc, &ports)?,
-        scalars: Items::from_slice(alloc, &scalars)?,
-        arrays: Items::from_slice(alloc, &arrays)?,
-        body,
-    })
-}
-
-fn read(n: &Names, name: &Name) -> Stmt {
-    Stmt::Read(Target::Scalar(used(name)), used(&n.a))
-}
-
-fn write(n: &Names, value: Expr) -> Stmt {
-    Stmt::Write(used(&n.b), value)
-}
-
-// x op y, or the same of both as unsigned words
-fn operation(alloc: Global, n: &Names, o: BinOp, ty: Ty) -> Result<Expr, NoMemory> {
-    match ty {
-        Ty::Int => pair(alloc, o, var(&n.x), var(&n.y)),
-        Ty::Uint => {
-            let x = as_uint(alloc, var(&n.x))?;
-            let y = as_uint(alloc, var(&n.y))?;
-            pair(alloc, o, x, y)
-        }
-    }
-}
-
-// while (1) { x = read(a); y = read(a); and the quotients and remainders are written }
-fn divides(alloc: Global, n: &Names) -> Result<Operator, NoMemory> {
-    let mut turn = Items::new(alloc);
-    turn.push(read(n, &n.x))?;
-    turn.push(read(n, &n.y))?;
-    for (o, ty) in [
-        (BinOp::Div, Ty::Int),
-        (BinOp::Rem, Ty::Int),
-        (BinOp::Div, Ty::Uint),
-        (BinOp::Rem, Ty::Uint),
-    ] {
-        turn.push(write(n, operation(alloc, n, o, ty)?))?;
-    }
-    let mut body = Items::new(alloc);
-    body.push(Stmt::While(int(1), turn))?;
-    operator(alloc, n, body)
-}
-
-fn fill(name: &Name, at: u32, word: u32) -> Stmt {
-    Stmt::Assign(Target::Element(used(name), int(at)), int(word))
-}
-
-fn element(alloc: Global, name: &Name, at: Expr) -> Result<Expr, NoMemory> {
-    Ok(Expr::Element(used(name), Boxed::new(alloc, at)?))
-}
-
-// An index counts modulo the array's length.
-fn indexes(alloc: Global, n: &Names) -> Result<Operator, NoMemory> {
-    let mut body = Items::new(alloc);
-    body.push(fill(&n.t, 0, 5))?;
-    for i in 0..3u32 {
-        body.push(fill(&n.u, i, 10 + i))?;
-    }
-    for i in 0..4u32 {
-        body.push(fill(&n.v, i, 20 + i))?;
-    }
-    for (name, length) in [(&n.t, 1), (&n.u, 3), (&n.v, 4)] {
-        body.push(write(n, element(alloc, name, minus(alloc, 1)?)?))?;
-        body.push(write(n, element(alloc, name, int(length))?))?;
-    }
-    operator(alloc, n, body)
-}
-
-// Literals, compared with the signs that they have.
-fn literals(alloc: Global, n: &Names) -> Result<Operator, NoMemory> {
-    let high = || Expr::Lit(0x8000_0000, Ty::Uint);
-    let mut body = Items::new(alloc);
-    body.push(write(n, pair(alloc, BinOp::Lt, int(0x7FFF_FFFF), high())?))?;
-    let less_one = pair(alloc, BinOp::Sub, int(0), int(1))?;
-    body.push(write(n, pair(alloc, BinOp::Lt, less_one, high())?))?;
-    let less_one = pair(alloc, BinOp::Sub, int(0), int(1))?;
-    body.push(write(n, pair(alloc, BinOp::Lt, less_one, int(0x7FFF_FFFF))?))?;
-    body.push(write(n, Expr::Lit(0xFFFF_FFFF, Ty::Uint)))?;
-    operator(alloc, n, body)
-}
-
-// The words that the plain meaning writes.
+/// The words that the plain meaning writes.
 fn meant(alloc: Global, op: &Checked, feed: &[u32]) -> Result<Option<Vec<u32>>, NoMemory> {
     let mut ins = Vec::new(alloc);
     ins.push(feed.to_vec(alloc)?)?;
@@ -199,13 +79,19 @@ fn meant(alloc: Global, op: &Checked, feed: &[u32]) -> Result<Option<Vec<u32>>, 
     Ok(Some(words))
 }
 
-// The words that the softcore writes.
-fn made(alloc: Global, op: &Checked, feed: &[u32]) -> Result<Option<Vec<u32>>, NoMemory> {
+fn compiled(alloc: Global, kind: Kind, op: &Checked) -> Result<Option<Image>, NoMemory> {
     let Some(permit) = Permits::new().issue(alloc, 1)?.pop() else {
         return Ok(None);
     };
-    let image = compile_soft(alloc, permit, op)?;
-    let mut core = PageCore::load(alloc, &image)?;
+    match kind {
+        Kind::Soft => Ok(Some(compile_soft(alloc, permit, op)?)),
+        Kind::Hard => Ok(Some(compile_hard(alloc, permit, op)?)),
+    }
+}
+
+/// The words that a page with this image writes.
+fn made(alloc: Global, image: &Image, feed: &[u32]) -> Result<Option<Vec<u32>>, NoMemory> {
+    let mut core = PageCore::load(alloc, image)?;
     let mut words = Vec::new(alloc);
     let mut read = 0usize;
     for _ in 0..1000 {
@@ -229,25 +115,35 @@ fn made(alloc: Global, op: &Checked, feed: &[u32]) -> Result<Option<Vec<u32>>, N
 }
 
 #[test]
-fn the_meaning_and_the_softcore_write_the_same(rt: HostRuntime) -> Result<(), Fail> {
+fn the_meaning_and_both_kinds_of_page_write_the_same(rt: HostRuntime) -> Result<(), Fail> {
     let alloc = rt.alloc();
-    let n = all_names().ok_or("no names")?;
-    let pairs: &[u32] = &[7, 0, 0x8000_0000, 0xFFFF_FFFF, 0xFFFF_FFF9, 2];
-    let quotients: &[u32] = &[
-        4294967295, 7, 4294967295, 7, 2147483648, 0, 0, 2147483648, 4294967293, 4294967295,
-        2147483644, 1,
+    let rows: [Row; 5] = [
+        (
+            DIVIDES,
+            &[7, 0, 0x8000_0000, 0xFFFF_FFFF, 0xFFFF_FFF9, 2],
+            &[
+                4294967295, 7, 4294967295, 7, 2147483648, 0, 0, 2147483648, 4294967293, 4294967295,
+                2147483644, 1,
+            ],
+        ),
+        (INDEXES, &[], &[5, 5, 10, 10, 23, 20]),
+        (LITERALS, &[], &[1, 0, 1, 4294967295]),
+        (
+            SHIFTS,
+            &[0xFFFF_FFF8],
+            &[0xFFFF_FFFC, 0x7FFF_FFFC, 0xFFFF_FFF0, 1, 1, 1],
+        ),
+        (CHOICES, &[40], &[0xFFFF_FFFF, 7, 0xFFFF_FFFC, 40]),
     ];
-    let rows: [(Operator, &[u32], &[u32]); 3] = [
-        (divides(alloc, &n)?, pairs, quotients),
-        (indexes(alloc, &n)?, &[], &[5, 5, 10, 10, 23, 20]),
-        (literals(alloc, &n)?, &[], &[1, 0, 1, 4294967295]),
-    ];
-    for (op, feed, want) in rows {
-        let op = Checked::of(op).ok_or("not sound")?;
+    for (text, feed, want) in rows {
+        let op = operator(alloc, text)?.ok_or("not an operator")?;
         let words = meant(alloc, &op, feed)?.ok_or("not run")?;
         assert_eq!(rt; words.as_slice(), want);
-        let words = made(alloc, &op, feed)?.ok_or("not built")?;
-        assert_eq!(rt; words.as_slice(), want);
+        for kind in [Kind::Soft, Kind::Hard] {
+            let image = compiled(alloc, kind, &op)?.ok_or("not compiled")?;
+            let words = made(alloc, &image, feed)?.ok_or("not run")?;
+            assert_eq!(rt; words.as_slice(), want);
+        }
     }
     Ok(())
 }

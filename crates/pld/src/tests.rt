@@ -8,7 +8,7 @@ use std::test::Fail;
 
 /// Runs a session, whose takes give so many bytes, and in which one take and one put fail (0: none).
 /// A session never ends in Usage.
-fn run(
+pub(crate) fn run(
     rt: &HostRuntime,
     text: &[u8],
     rounds: u64,
@@ -111,7 +111,13 @@ fn replies_to_cut(rt: &HostRuntime, cut: usize) -> Result<(Vec<u8>, Status), Fai
             return Ok((replies, Status::Fine));
         }
         if left < row.1 {
-            replies.extend_from_slice(row.3)?;
+            // The name of the feed, cut short, is that of no input.
+            let unknown: &[u8] = b"refused 11 NotLinked\n";
+            replies.extend_from_slice(if row.0 == 24 && left > 5 {
+                unknown
+            } else {
+                row.3
+            })?;
             return Ok((replies, Status::SomeRefused));
         }
         replies.extend_from_slice(row.2)?;
@@ -184,12 +190,12 @@ fn answers_each_statement(rt: HostRuntime) -> Result<(), Fail> {
         (b"hello", b"refused 1 BadLine\n", Status::SomeRefused),
         (
             b"build\nop f soft\nvoid f(in a, out b) { if (1) { } }\nend\n",
-            b"refused 1 BadLine\nok\n",
+            b"refused 1 Empty\nok\n",
             Status::SomeRefused,
         ),
         (
-            b"op f soft\nvoid f(in a) { write(a, 1); }\nend\nop f soft\n\nvoid f() {\nend\nop f soft\nvoid f() { }\nend\nop f soft\nvoid f(in a, out b) { x = 70000; }\nend\n",
-            b"refused 1 Source WrongDirection 1 22\nrefused 4 Source Syntax 3 1\nrefused 8 BadLine\nrefused 11 Source UnknownName 1 23\n",
+            b"op f soft\nvoid f(in a) { write(a, 1); }\nend\nop f soft\n\nvoid f() {\nend\nop f soft\nvoid f() { }\nend\nop g soft\nvoid f(in a, out b) { x = 70000; }\nend\n",
+            b"refused 1 Source WrongDirection 1 22\nrefused 4 Source Syntax 3 1\nok\nrefused 11 Source UnknownName 1 23\n",
             Status::SomeRefused,
         ),
         (
@@ -199,7 +205,7 @@ fn answers_each_statement(rt: HostRuntime) -> Result<(), Fail> {
         ),
         (
             b"op f soft\r\nvoid g(in a, out b) { int32_t x; x = read(a); write(b, (x - 3) + 4); x = read(a); }\r\nend\r\ninput f f.i0\r\ninput s f.i0\r\noutput f.o0 y\r\nfeed y 1\r\nfeed s -3\r\nbuild\r\nbuild\r\nrun\r\nrun\r\n",
-            b"ok\nrefused 4 BadLine\nok\nok\nrefused 7 BadLine\nok\nbuilt 1 compiled 1\nrefused 10 BadLine\nstalled\nat f.i0 empty\nout y 1 4294967294\nrefused 12 BadLine\n",
+            b"ok\nrefused 4 NameTaken\nok\nok\nrefused 7 NotLinked\nok\nbuilt 1 compiled 1\nbuilt 1 compiled 1\nstalled\nat f.i0 empty\nout y 1 4294967294\nstalled\nat f.i0 empty\nout y 1 4294967294\n",
             Status::SomeRefused,
         ),
         (

@@ -1,7 +1,7 @@
 -- The replies to a text are the same, whatever the records of its runs.
-use Rattle.std.proofs.Common.{◌≡◌, ℕ, Bool, true, false, List, [], ◌∷◌, ◌++◌, Option, Some, None, refl, sym, ap, ◌∙◌, subst}
+use Rattle.std.proofs.Common.{◌≡◌, ℕ, ◌+◌, Bool, true, false, List, [], ◌∷◌, ◌++◌, Option, Some, None, refl, sym, ap, ◌∙◌, subst}
 use Rattle.std.proofs.lemmas.List.Elements.{All-head, All-tail}
-use Rattle.std.specs.Prelude.{IsSome}
+use Rattle.std.specs.Prelude.{IsSome, nat_lt, if◌then◌else◌}
 use Rattle.direct_world.specs.declared.entry.Entry.{Entry}
 use Rattle.direct_world.specs.Plan.{PlanValue}
 use Rattle.direct_world.specs.Replay.{outcome, replay, IsPlain}
@@ -12,7 +12,9 @@ use Rattle.pld_driver.specs.Walk.{Answered, Step, Says, Runs, Walked, after, wal
 use Rattle.pld_driver.proofs.Walks.{pick}
 use Rattle.direct_world.specs.declared.world.Record.{Record}
 use Rattle.pld_session.specs.States.{State}
-use Rattle.pld_session.specs.Answers.{answer, answer_to, Parts, parts_in, ran_reply, runs, Fits, FitsIn, FitsParts}
+use Rattle.pld_reply.specs.declared.refusals.Refusal.TheVariants as refusal
+use Rattle.pld_session.specs.Runs.{ran_reply}
+use Rattle.pld_session.specs.Answers.{answer, answer_to, refuses, ran, runs_built, most_runs, Fits}
 use Rattle.pld_session.specs.Laws.{IsRecorded}
 
 -- a plan has one run of `plain`
@@ -33,24 +35,37 @@ one_record one plan r s e f a b c d =
     let J : List Entry → Record = λ j. record { plan = s.plan; journal = j } in
     ap P (sym same) ∙ ap J journals
 
-run_agrees : (st : State) (number : ℕ) (parts : Option Parts) → parts_in st ≡ parts → OnePlain → Agrees st (runs st number parts)
-run_agrees st number None e one = tt
-run_agrees st number (Some parts) e one = λ r s a b.
-    let P : Record → Option Parts → Type 0 = λ x p. FitsIn st.rounds p x in
-    let fit : FitsParts st.rounds parts r = subst (P r) e a in
-    let fit' : FitsParts st.rounds parts s = subst (P s) e b in
-    let A : Answered State = record { reply = []; refused = false; permits = 0; next = record st { ran = true } } in
-    ap (λ x. record A { reply = ran_reply parts x }) (one_record one _ r s fit.plan fit'.plan fit.plain fit.over fit'.plain fit'.over)
+run_agrees : (st : State) (number : ℕ) → OnePlain → Agrees st (Runs (ran st))
+run_agrees st number one = λ r s fit fit'.
+    let A : Answered State = record { reply = []; refused = false; permits = 0; next = record st { runs = st.runs + 1 } } in
+    ap (λ x. record A { reply = ran_reply st.draft x }) (one_record one _ r s fit.plan fit'.plan fit.plain fit.over fit'.plain fit'.over)
+
+built_agrees : (st : State) (number : ℕ) (b : Bool) → OnePlain → Agrees st (if b then Runs (ran st) else Says (refuses st number refusal.TooManyRuns))
+built_agrees st number true one = run_agrees st number one
+built_agrees st number false one = tt
+
+runs_agrees : (st : State) (number : ℕ) (b : Bool) → OnePlain → Agrees st (if b then runs_built st number else Says (refuses st number refusal.NotBuilt))
+runs_agrees st number true one = built_agrees st number (nat_lt st.runs most_runs) one
+runs_agrees st number false one = tt
 
 answer_agrees : (st : State) (number : ℕ) (said : Option Statement) → OnePlain → Agrees st (answer_to st number said)
 answer_agrees st number None one = tt
 answer_agrees st number (Some (says.Op name kind text)) one = tt
+answer_agrees st number (Some (says.Replace name kind text)) one = tt
+answer_agrees st number (Some (says.Remove name)) one = tt
+answer_agrees st number (Some (says.Connect from to)) one = tt
+answer_agrees st number (Some (says.Disconnect what)) one = tt
 answer_agrees st number (Some (says.Input name to)) one = tt
 answer_agrees st number (Some (says.Output from name)) one = tt
-answer_agrees st number (Some (says.Feed name feed)) one = tt
+answer_agrees st number (Some (says.Pin name leaf)) one = tt
+answer_agrees st number (Some (says.Unpin name)) one = tt
+answer_agrees st number (Some (says.Pages depth)) one = tt
+answer_agrees st number (Some (says.Feed name words)) one = tt
+answer_agrees st number (Some (says.Clear name)) one = tt
 answer_agrees st number (Some says.Build) one = tt
+answer_agrees st number (Some says.Run) one = runs_agrees st number st.built one
+answer_agrees st number (Some (says.DumpImage name)) one = tt
 answer_agrees st number (Some says.Quit) one = tt
-answer_agrees st number (Some says.Run) one = run_agrees st number (parts_in st) refl one
 
 -- one answer, and then the others
 

@@ -1,5 +1,6 @@
-pub mod Agreeing
-pub mod Alone
+pub mod Told
 pub mod Running
+pub mod Resting
+pub mod Agreeing
 pub mod Starting
-pub mod Replying
+pub mod Gathered

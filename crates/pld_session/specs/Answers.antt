@@ -1,156 +1,105 @@
--- What is said to a statement, and what the session holds then. At this stage there are six statements beside `quit`:
--- `op`, `input`, `output`, `feed`, `build` and `run`, each once and in this order. Any other is a bad line.
-use Rattle.std.specs.Prelude.{◌≡◌, ℕ, Bool, true, false, not, ◌&&◌, ◌==◌, nat_le, is_some, is_none, IsSome, List, [], ◌∷◌, length, Option, Some, None, if◌then◌else◌}
-use Rattle.std.specs.Str.{bytes_eq}
+-- What is said to a statement, and what the session holds then.
+use Rattle.std.specs.Prelude.{◌≡◌, ℕ, ◌+◌, ◌-◌, ◌^◌, Bool, true, false, ◌&&◌, nat_le, nat_lt, List, [], ◌∷◌, length, map, Option, Some, None, Result, Ok, Err, if◌then◌else◌, slice_index_or}
 use Rattle.pld_base.specs.declared.event.End.{End}
-use Rattle.pld_base.specs.declared.event.Kind.{Kind}
-use Rattle.pld_base.specs.declared.event.Kind.TheVariants.{Soft, Hard}
-use Rattle.pld_base.specs.declared.event.Side.{Side}
-use Rattle.pld_base.specs.declared.event.Side.TheVariants.{In, Out}
-use Rattle.pld_ast.specs.declared.tree.Operator.{Operator}
-use Rattle.pld_ast.specs.Meaning.{trace}
-use Rattle.pld_ast.specs.Resolve.{program_of}
-use Rattle.pld_base.specs.declared.fault.SourceFault.{SourceFault}
-use Rattle.pld_source.specs.Reading.{Reading, Faulty, Reads, reading}
-use Rattle.pld_image.specs.Forms.{SoftForm}
-use Rattle.rv_back.specs.Form.{soft_form}
+use Rattle.image_form.specs.Spelling.{bytes_of}
+use Rattle.direct_world.specs.Plan.{no_image}
+use Rattle.pld_graph.specs.declared.parts.GraphFault.TheVariants.{UnknownOperator}
+use Rattle.pld_graph.specs.Design.{place_of, open_port}
+use Rattle.pld_draft.specs.declared.parts.EditFault.{EditFault}
+use Rattle.pld_draft.specs.declared.parts.EditFault.TheVariants as fault
+use Rattle.pld_draft.specs.Draft.{DraftState}
+use Rattle.pld_draft.specs.Edits as edit
+use Rattle.pld_build.specs.Images.{distinct}
+use Rattle.pld_reply.specs.declared.refusals.Refusal.{Refusal}
+use Rattle.pld_reply.specs.declared.refusals.Refusal.TheVariants as refusal
+use Rattle.pld_reply.specs.Refusals.{refused_reply}
+use Rattle.pld_reply.specs.Replies.{ok_reply, built_reply, image_reply}
 use Rattle.direct_world.specs.declared.world.Record.{Record}
-use Rattle.direct_world.specs.Promise.{KeepsPromise}
-use Rattle.direct_world.specs.Replay.{replay, outcome, IsLegal, IsPlain}
-use Rattle.direct_world.specs.Reply.{reply, name_in}
-use Rattle.pld_session.specs.Plans.{plan_alone}
 use Rattle.pld_script.specs.declared.statement.Statement.{Statement}
 use Rattle.pld_script.specs.declared.statement.Statement.TheVariants as says
 use Rattle.pld_script.specs.Statements.{Placed}
 use Rattle.pld_driver.specs.Walk.{Answered, Step, Says, Runs}
-use Rattle.pld_session.specs.declared.session.Added.{Added}
-use Rattle.pld_session.specs.Replies.{ok_reply, bad_line_reply, source_reply, built_reply}
-use Rattle.pld_session.specs.States.{State}
+use Rattle.pld_session.specs.States.{State, images}
+use Rattle.pld_session.specs.Runs.{ran_reply, FitsRun}
 
 -- the statement is refused, and nothing changes
-abbrev pub refuses : State → ℕ → Answered State
-refuses st number = record { reply = bad_line_reply number; refused = true; permits = 0; next = st }
+abbrev pub refuses : State → ℕ → Refusal → Answered State
+refuses st number why = record { reply = refused_reply number why; refused = true; permits = 0; next = st }
 
 -- the statement is accepted, and this is held then
 abbrev pub accepts : State → Answered State
 accepts st = record { reply = ok_reply; refused = false; permits = 0; next = st }
 
-abbrev pub accepts_if : Bool → State → ℕ → State → Answered State
-accepts_if test st number next = if test then accepts next else refuses st number
+-- ---- edits, feed and clear
 
--- ---- op: a text without a fault, of an operator with one in-port and one out-port
+-- why an edit is refused
+abbrev pub refusal_of : EditFault → Refusal
+refusal_of (fault.Graph f) = refusal.Graph f
+refusal_of (fault.Source f) = refusal.Source f
+refusal_of fault.TooManyWords = refusal.TooManyWords
 
--- the text's fault is told, and nothing changes
-abbrev pub refuses_source : State → ℕ → SourceFault → Answered State
-refuses_source st number fault = record { reply = source_reply number fault; refused = true; permits = 0; next = st }
+-- an edit is accepted even where it changes nothing, and a build is wanted behind it
+abbrev pub edits : State → ℕ → edit.Edited → Answered State
+edits st number (Ok draft) = accepts (record st { draft = draft; built = false })
+edits st number (Err f) = refuses st number (refusal_of f)
 
-abbrev pub is_single : Operator → Bool
-is_single operator = ((program_of operator).ins == 1) && ((program_of operator).outs == 1)
+-- other words of an input are no edit
+abbrev pub feeds : State → ℕ → edit.Edited → Answered State
+feeds st number (Ok draft) = accepts (record st { draft = draft })
+feeds st number (Err f) = refuses st number (refusal_of f)
 
-abbrev pub adds_read : State → ℕ → List ℕ → Reading → Answered State
-adds_read st number name (Faulty fault) = refuses_source st number fault
-adds_read st number name (Reads operator) = accepts_if (is_single operator) st number (record st { operator = Some (record { name = name; operator = operator }) })
+-- a tree has a depth from 1 to 6; no statement of a text has another
+abbrev pub repages : State → ℕ → ℕ → Answered State
+repages st number depth =
+    if nat_le 1 depth && nat_le depth 6 then edits st number (edit.pages depth st.draft) else refuses st number refusal.BadLine
 
-abbrev pub adds : State → ℕ → List ℕ → Kind → List ℕ → Answered State
-adds st number name Soft text = if is_some st.operator then refuses st number else adds_read st number name (reading text)
-adds st number name Hard text = refuses st number
+-- ---- build: there is an operator, every port is in a channel, and there are pages enough
 
--- ---- input, output, feed: the three names differ, and the ports are the operator's i0 and o0
+-- all leaves but the host's are pages
+abbrev pub pages : ℕ → ℕ
+pages depth = 2 ^ depth - 1
 
-abbrev pub is_in : Side → Bool
-is_in In = true
-is_in Out = false
+abbrev pub builds_closed : State → ℕ → Answered State
+builds_closed st number =
+    if nat_lt (pages st.draft.design.depth) (length st.draft.sources)
+    then refuses st number (refusal.TooFewPages (length st.draft.sources) (pages st.draft.design.depth))
+    else record {
+      reply = built_reply (length st.draft.sources) (distinct st.draft.sources);
+      refused = false;
+      permits = distinct st.draft.sources;
+      next = record st { built = true };
+    }
 
--- whether an end is port 0 of the operator with this name
-abbrev pub is_first_in : List ℕ → End → Bool
-is_first_in name end = bytes_eq end.op name && (is_in end.side && (end.port.0 == 0))
-
-abbrev pub is_first_out : List ℕ → End → Bool
-is_first_out name end = bytes_eq end.op name && (not (is_in end.side) && (end.port.0 == 0))
-
-abbrev pub joins_input : Option Added → List ℕ → End → Bool
-joins_input None name to = false
-joins_input (Some added) name to = not (bytes_eq name added.name) && is_first_in added.name to
-
-abbrev pub may_input : State → List ℕ → End → Bool
-may_input st name to = is_none st.input && joins_input st.operator name to
-
-abbrev pub differs : List ℕ → Option (List ℕ) → Bool
-differs name None = false
-differs name (Some other) = not (bytes_eq name other)
-
-abbrev pub joins_output : Option Added → End → List ℕ → Bool
-joins_output None from name = false
-joins_output (Some added) from name = not (bytes_eq name added.name) && is_first_out added.name from
-
-abbrev pub may_output : State → End → List ℕ → Bool
-may_output st from name = is_none st.output && (differs name st.input && joins_output st.operator from name)
-
-abbrev pub is_name : List ℕ → Option (List ℕ) → Bool
-is_name name None = false
-is_name name (Some other) = bytes_eq name other
-
--- at most 65,536 words
-abbrev pub may_feed : State → List ℕ → List ℕ → Bool
-may_feed st name words = is_none st.feed && (is_some st.output && (is_name name st.input && nat_le (length words) 65536))
-
--- ---- build
-
-abbrev pub builds_operator : State → ℕ → Option Added → Answered State
-builds_operator st number None = refuses st number
-builds_operator st number (Some added) =
-    record { reply = built_reply 1 1; refused = false; permits = 1; next = record st { image = Some (soft_form added.operator) } }
+abbrev pub builds_if : State → ℕ → Option End → Answered State
+builds_if st number (Some end) = refuses st number (refusal.OpenPort (record { end = end }))
+builds_if st number None = builds_closed st number
 
 abbrev pub builds : State → ℕ → Answered State
-builds st number = if is_none st.image && is_some st.feed then builds_operator st number st.operator else refuses st number
+builds st number = if nat_le (length st.draft.sources) 0 then refuses st number refusal.Empty else builds_if st number (open_port st.draft.design)
 
--- ---- run
+-- ---- dump image: there is a build, and the operator is there
 
--- what a run is made of, if all of it is there
-pub record Parts : Type 0 where
-  pub name : List ℕ
-  pub operator : Operator
-  pub output : List ℕ
-  pub feed : List ℕ
-  pub image : SoftForm
+abbrev pub dumps_at : State → ℕ → List ℕ → Option ℕ → Answered State
+dumps_at st number name None = refuses st number (refusal.Graph UnknownOperator)
+dumps_at st number name (Some k) =
+    record { reply = image_reply name (bytes_of (slice_index_or (images st.draft) k no_image)); refused = false; permits = 0; next = st }
 
-abbrev pub parts_of : Option Added → Option (List ℕ) → Option (List ℕ) → Option SoftForm → Option Parts
-parts_of (Some added) (Some output) (Some feed) (Some image) = Some (record { name = added.name; operator = added.operator; output = output; feed = feed; image = image })
-parts_of (Some added) (Some output) (Some feed) None = None
-parts_of (Some added) (Some output) None image = None
-parts_of (Some added) None feed image = None
-parts_of None output feed image = None
+abbrev pub dumps : State → ℕ → List ℕ → Answered State
+dumps st number name = if st.built then dumps_at st number name (place_of name st.draft.design) else refuses st number refusal.NotBuilt
 
-abbrev pub parts_in : State → Option Parts
-parts_in st = if st.ran then None else parts_of st.operator st.output st.feed st.image
+-- ---- run: there is a build, and fewer than 64 runs were made
 
--- the reply to a run, read off its record
-abbrev pub ran_reply : Parts → Record → List ℕ
-ran_reply parts run = reply (name_in (parts.name ∷ [])) (name_in (parts.output ∷ [])) run.plan (replay run.plan run.journal)
+abbrev pub most_runs : ℕ
+most_runs = 64
 
-abbrev pub runs : State → ℕ → Option Parts → Step State Record
-runs st number None = Says (refuses st number)
-runs st number (Some parts) =
-    Runs (λ run. record { reply = ran_reply parts run; refused = false; permits = 0; next = record st { ran = true } })
+abbrev pub ran : State → Record → Answered State
+ran st run = record { reply = ran_reply st.draft run; refused = false; permits = 0; next = record st { runs = st.runs + 1 } }
 
--- The record of a run fits the session before it.
-pub record FitsParts (rounds : ℕ) (parts : Parts) (run : Record) : Type 0 where
-  -- what was run: the image of a full build, the rows, the words of the feed as they stand, and the allowed rounds
-  pub plan : run.plan ≡ plan_alone rounds (soft_form parts.operator) parts.feed
-  -- each entry is legal in the state after those before it, and the last state is the first that is over
-  pub legal : IsLegal run.plan run.journal
-  pub over : IsSome (outcome run.plan (replay run.plan run.journal))
-  -- the entries are those of one worker, who takes the pages in ascending order
-  pub plain : IsPlain run.plan run.journal
-  -- its words are those of the operator's Kahn streams
-  pub promise : KeepsPromise run.plan (trace (program_of parts.operator) ∷ []) run.journal
+abbrev pub runs_built : State → ℕ → Step State Record
+runs_built st number = if nat_lt st.runs most_runs then Runs (ran st) else Says (refuses st number refusal.TooManyRuns)
 
-abbrev pub FitsIn : ℕ → Option Parts → Record → Type 0
-FitsIn rounds None run = ⊥
-FitsIn rounds (Some parts) run = FitsParts rounds parts run
-
-abbrev pub Fits : State → Record → Type 0
-Fits st run = FitsIn st.rounds (parts_in st) run
+abbrev pub runs : State → ℕ → Step State Record
+runs st number = if st.built then runs_built st number else Says (refuses st number refusal.NotBuilt)
 
 -- nothing is said, and nothing changes
 abbrev pub says_nothing : State → Answered State
@@ -159,14 +108,27 @@ says_nothing st = record { reply = []; refused = false; permits = 0; next = st }
 -- ---- any statement
 
 abbrev pub answer_to : State → ℕ → Option Statement → Step State Record
-answer_to st number None = Says (refuses st number)
-answer_to st number (Some (says.Op name kind text)) = Says (adds st number name kind text)
-answer_to st number (Some (says.Input name to)) = Says (accepts_if (may_input st name to) st number (record st { input = Some name }))
-answer_to st number (Some (says.Output from name)) = Says (accepts_if (may_output st from name) st number (record st { output = Some name }))
-answer_to st number (Some (says.Feed name words)) = Says (accepts_if (may_feed st name words) st number (record st { feed = Some words }))
+answer_to st number None = Says (refuses st number refusal.BadLine)
+answer_to st number (Some (says.Op name kind text)) = Says (edits st number (edit.op name kind text st.draft))
+answer_to st number (Some (says.Replace name kind text)) = Says (edits st number (edit.replace name kind text st.draft))
+answer_to st number (Some (says.Remove name)) = Says (edits st number (edit.remove_operator name st.draft))
+answer_to st number (Some (says.Connect from to)) = Says (edits st number (edit.connect from to st.draft))
+answer_to st number (Some (says.Disconnect what)) = Says (edits st number (edit.disconnect what st.draft))
+answer_to st number (Some (says.Input name to)) = Says (edits st number (edit.input name to st.draft))
+answer_to st number (Some (says.Output from name)) = Says (edits st number (edit.output from name st.draft))
+answer_to st number (Some (says.Pin name leaf)) = Says (edits st number (edit.pin name leaf st.draft))
+answer_to st number (Some (says.Unpin name)) = Says (edits st number (edit.unpin name st.draft))
+answer_to st number (Some (says.Pages depth)) = Says (repages st number depth)
+answer_to st number (Some (says.Feed name words)) = Says (feeds st number (edit.feed name words st.draft))
+answer_to st number (Some (says.Clear name)) = Says (feeds st number (edit.clear name st.draft))
 answer_to st number (Some says.Build) = Says (builds st number)
-answer_to st number (Some says.Run) = runs st number (parts_in st)
+answer_to st number (Some says.Run) = runs st number
+answer_to st number (Some (says.DumpImage name)) = Says (dumps st number name)
 answer_to st number (Some says.Quit) = Says (says_nothing st)
 
 abbrev pub answer : State → Placed → Step State Record
 answer st placed = answer_to st placed.number placed.said
+
+-- the record is one that a run from this state leaves
+abbrev pub Fits : State → Record → Type 0
+Fits st run = FitsRun st.rounds st.draft run

@@ -1,7 +1,6 @@
-pub mod Answers
-pub mod Plans
-pub mod Replies
 pub mod States
+pub mod Runs
+pub mod Answers
 pub mod Steps
 pub mod Headline
 pub mod Laws

@@ -1,25 +1,28 @@
--- What a session holds: the statements that it has accepted, each once and in their order.
-use Rattle.std.specs.Prelude.{◌≡◌, ℕ, Bool, false, List, Option, Some, None}
-use Rattle.pld_session.specs.declared.session.Added.{Added}
-use Rattle.pld_image.specs.Forms.{SoftForm}
-use Rattle.rv_back.specs.Form.{soft_form}
+-- What a session holds.
+use Rattle.std.specs.Prelude.{◌≡◌, ℕ, ◌≤◌, Bool, true, false, List, length, map}
+use Rattle.image_form.specs.Spelling.{Form}
+use Rattle.pld_draft.specs.Draft.{DraftState, at_first as first_draft}
+use Rattle.pld_build.specs.Images.{image_of}
 
 pub record State : Type 0 where
   -- how many rounds a run may make
   pub rounds : ℕ
-  pub operator : Option Added
-  pub input : Option (List ℕ)
-  pub output : Option (List ℕ)
-  pub feed : Option (List ℕ)
-  -- the image of the build
-  pub image : Option SoftForm
-  -- whether a run was made
-  pub ran : Bool
+  -- the design, with the texts of its operators and the words of its inputs
+  pub draft : DraftState
+  -- whether a build succeeded since the last edit
+  pub built : Bool
+  -- how many runs were made
+  pub runs : ℕ
 
+-- a tree of depth 4, and nothing in it
 abbrev pub at_first : ℕ → State
-at_first rounds = record { rounds = rounds; operator = None; input = None; output = None; feed = None; image = None; ran = false }
+at_first rounds = record { rounds = rounds; draft = first_draft 4; built = false; runs = 0 }
 
--- this is the image of the operator
-abbrev pub IsImageOf : Option Added → SoftForm → Type 0
-IsImageOf None image = ⊥
-IsImageOf (Some added) image = image ≡ soft_form added.operator
+-- the images of a full build, in the order of declaration
+abbrev pub images : DraftState → List Form
+images d = map image_of d.sources
+
+-- a full build's images, of one operator at least
+pub record IsBuild (d : DraftState) (made : List Form) : Type 0 where
+  pub same : made ≡ images d
+  pub an_operator : 1 ≤ length d.sources

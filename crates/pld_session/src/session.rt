@@ -1,55 +1,46 @@
 //! What a session holds, and its answers to statements.
 
-ghost use Rattle.std.specs.Prelude.{◌≡◌, ◌≤◌, ◌^◌, ◌+◌, ◌<◌, [], ℕ, List, Some, None, true, false, All, length, IfOk, OnErr, OnOk};
-ghost use Rattle.pld_session.specs.Replies.{bad_line_reply, source_reply};
-ghost use Rattle.pld_source.specs.Reading.{Reads};
-ghost use Rattle.pld_session.specs.States.{State, at_first};
-ghost use Rattle.pld_session.specs.Answers.{answer_to, refuses, accepts, accepts_if, adds, adds_read, is_single as is_single_of, may_input as may_input_of, may_output as may_output_of, may_feed as may_feed_of, is_first_in as is_first_in_of, is_first_out as is_first_out_of, differs as differs_from, is_name as is_name_of, builds, runs, parts_in, Fits, FitsParts, answer};
-ghost use Rattle.pld_base.specs.Words.{IsWord};
+ghost use Rattle.std.specs.Prelude.{◌≡◌, ◌≤◌, ◌^◌, ◌+◌, ◌-◌, ◌<◌, [], Some, None, length, IfOk, OnErr};
+ghost use Rattle.pld_draft.specs.Edits as edit;
+ghost use Rattle.pld_graph.specs.Design.{open_port};
+ghost use Rattle.pld_session.specs.States.{at_first};
+ghost use Rattle.pld_session.specs.Answers.{answer_to, edits, feeds, repages, builds, dumps, pages as pages_of, Fits};
 ghost use Rattle.pld_session.specs.Steps.{Tells};
-ghost use Rattle.rv_back.specs.Form.{soft_form};
 ghost use Rattle.pld_driver.specs.Moments.{Took, Broke};
-ghost use Rattle.pld_script.specs.Statements.{Placed};
 
-use crate::plan::plan_alone;
-use crate::reply::{put_bad_line, put_built, put_ok, put_run, put_source};
-use direct_world::{Record, World, plain_is_legal, run_plain, runs_keep_their_promise};
-use pld_ast::operators_are_processes;
-use pld_base::{End, Kind, Name, NoMemory, Permits, Refused, Side, SourceFault};
-use pld_check::Checked;
+use crate::edits::{answer_edit, answer_feed, refuse, tried};
+use crate::runs::{operator_names, output_names, reply_room, run_design};
+use direct_world::Record;
+use pld_base::{End, Kind, Name, NoMemory};
+use pld_build::{build, pairs_are_few};
+use pld_draft::Draft;
 use pld_driver::{Bench, Engine};
-use pld_image::{Image, cores_are_processes};
+use pld_graph::{Cut, GraphFault};
+use pld_image::{Image, image_bytes};
+use pld_reply::{Refusal, put_built, put_image, put_run};
 use pld_script::{Statement, Text, WordList};
-use pld_source::read_operator;
-use rv_back::{code_keeps_the_meaning, compile_soft};
 use std::alloc::Global;
 use std::marker::Model;
 
-/// The most words that a feed may have.
-const FEED_WORDS: usize = 65536;
+/// The depth of a session's tree, until `pages` names another.
+const DEPTH: u8 = 4;
 
-/// An operator of the session, with the name that the session's text gives it.
-#[derive(Drop)]
-pub struct Added {
-    pub name: Name,
-    pub operator: Checked,
-}
+/// The most runs of a session.
+const RUNS: u64 = 64;
 
-/// A session: the statements that it has accepted, each once and in their order.
+/// A session: its design as it stands, the images of the last build, and how many runs it has made.
 #[derive(Drop)]
 pub struct Session {
     rounds: u64,
-    operator: Option<Added>,
-    input: Option<Name>,
-    output: Option<Name>,
-    feed: Option<WordList>,
-    image: Option<Image>,
-    ran: bool,
+    draft: Draft,
+    /// The operators' images, in the order of declaration; none where no build succeeded since the last edit.
+    images: Option<Vec<Image>>,
+    runs: u64,
 }
 
 impl Model for Session {
-    ghost use Rattle.std.specs.Prelude.{◌≤◌, IfSome, length};
-    ghost use Rattle.pld_session.specs.States.{State, IsImageOf};
+    ghost use Rattle.std.specs.Prelude.{◌≤◌, IfSome, is_some};
+    ghost use Rattle.pld_session.specs.States.{State, IsBuild};
 
     ghost Value = { State };
 
@@ -59,110 +50,261 @@ impl Model for Session {
 
     ghost coded = { Prim.hlevel (codes, stmt.the_row.coded, expr.the_row.coded) };
 
-    ghost view = { λ s. record { rounds = s.rounds; operator = s.operator; input = s.input; output = s.output; feed = s.feed; image = s.image; ran = s.ran } };
+    ghost view = { λ s. record { rounds = s.rounds; draft = s.draft; built = is_some s.images; runs = s.runs } };
 
-    ghost invariant = { λ s. (1 ≤ s.rounds) × (s.rounds ≤ 1000000) × IfSome s.image (λ image. IsImageOf s.operator image) };
+    ghost invariant = { λ s. (1 ≤ s.rounds) × (s.rounds ≤ 1000000) × (s.runs ≤ 64) × IfSome s.images (λ images. IsBuild s.draft images.items) };
 }
 
 impl Session {
     /// No statement was accepted yet. Runs may make so many rounds, from 1 to 1,000,000.
-    pub fn new(rounds: u64) -> Session
+    pub fn new(alloc: Global, rounds: u64) -> Session
         requires some { 1 ≤ rounds }
         requires most { rounds ≤ 1000000 }
         ensures { result ≡ at_first rounds }
     {
         Session {
             rounds,
-            operator: None,
-            input: None,
-            output: None,
-            feed: None,
-            image: None,
-            ran: false,
+            draft: Draft::new(alloc, DEPTH),
+            images: None,
+            runs: 0,
         }
     }
 
-    /// Adds the operator.
-    fn add(
+    fn op(
         &mut self,
         alloc: Global,
         number: u64,
         name: Name,
         kind: Kind,
-        text: &Text,
+        text: Text,
         reply: &mut Vec<u8>,
     ) -> Result<bool, NoMemory>
         requires { reply.old.items ≡ [] }
-        ensures { IfOk result (λ refused. Tells (adds self.old number name kind text.now) reply.new.items refused self.new) }
+        ensures { IfOk result (λ refused. Tells (edits self.old number (edit.op name kind text self.old.draft)) reply.new.items refused self.new) }
     {
-        match kind {
-            Kind::Hard => return refuse(number, reply),
-            Kind::Soft => {}
-        }
-        if self.operator.is_some() {
-            return refuse(number, reply);
-        }
-        match read_operator(alloc, text.as_slice()) {
-            Ok(operator) => self.add_read(number, name, operator, reply),
-            Err(Refused::Fault(fault)) => refuse_source(number, fault, reply),
-            Err(Refused::NoMemory) => Err(NoMemory),
-        }
+        let done = self.draft.op(alloc, name, kind, text);
+        answer_edit(number, done, &mut self.images, reply)
     }
 
-    /// Adds the operator, if it has one in-port and one out-port.
-    fn add_read(
+    fn replace(
+        &mut self,
+        alloc: Global,
+        number: u64,
+        name: Name,
+        kind: Kind,
+        text: Text,
+        reply: &mut Vec<u8>,
+    ) -> Result<bool, NoMemory>
+        requires { reply.old.items ≡ [] }
+        ensures { IfOk result (λ refused. Tells (edits self.old number (edit.replace name kind text self.old.draft)) reply.new.items refused self.new) }
+    {
+        let done = self.draft.replace(alloc, name, kind, text);
+        answer_edit(number, done, &mut self.images, reply)
+    }
+
+    fn remove(&mut self, number: u64, name: Name, reply: &mut Vec<u8>) -> Result<bool, NoMemory>
+        requires { reply.old.items ≡ [] }
+        ensures { IfOk result (λ refused. Tells (edits self.old number (edit.remove_operator name self.old.draft)) reply.new.items refused self.new) }
+    {
+        let done = tried(self.draft.remove(name));
+        answer_edit(number, done, &mut self.images, reply)
+    }
+
+    fn connect(
+        &mut self,
+        number: u64,
+        from: End,
+        to: End,
+        reply: &mut Vec<u8>,
+    ) -> Result<bool, NoMemory>
+        requires { reply.old.items ≡ [] }
+        ensures { IfOk result (λ refused. Tells (edits self.old number (edit.connect from to self.old.draft)) reply.new.items refused self.new) }
+    {
+        let done = self.draft.connect(from, to);
+        answer_edit(number, done, &mut self.images, reply)
+    }
+
+    fn disconnect(&mut self, number: u64, what: Cut, reply: &mut Vec<u8>) -> Result<bool, NoMemory>
+        requires { reply.old.items ≡ [] }
+        ensures { IfOk result (λ refused. Tells (edits self.old number (edit.disconnect what self.old.draft)) reply.new.items refused self.new) }
+    {
+        let done = tried(self.draft.disconnect(what));
+        answer_edit(number, done, &mut self.images, reply)
+    }
+
+    fn input(
+        &mut self,
+        alloc: Global,
+        number: u64,
+        name: Name,
+        to: End,
+        reply: &mut Vec<u8>,
+    ) -> Result<bool, NoMemory>
+        requires { reply.old.items ≡ [] }
+        ensures { IfOk result (λ refused. Tells (edits self.old number (edit.input name to self.old.draft)) reply.new.items refused self.new) }
+    {
+        let done = self.draft.input(alloc, name, to);
+        answer_edit(number, done, &mut self.images, reply)
+    }
+
+    fn output(
+        &mut self,
+        number: u64,
+        from: End,
+        name: Name,
+        reply: &mut Vec<u8>,
+    ) -> Result<bool, NoMemory>
+        requires { reply.old.items ≡ [] }
+        ensures { IfOk result (λ refused. Tells (edits self.old number (edit.output from name self.old.draft)) reply.new.items refused self.new) }
+    {
+        let done = self.draft.output(from, name);
+        answer_edit(number, done, &mut self.images, reply)
+    }
+
+    fn pin(
         &mut self,
         number: u64,
         name: Name,
-        operator: Checked,
+        leaf: u16,
         reply: &mut Vec<u8>,
     ) -> Result<bool, NoMemory>
-        requires none { self.old.operator ≡ None }
-        requires empty { reply.old.items ≡ [] }
-        ensures { IfOk result (λ refused. Tells (adds_read self.old number name (Reads operator)) reply.new.items refused self.new) }
+        requires { reply.old.items ≡ [] }
+        ensures { IfOk result (λ refused. Tells (edits self.old number (edit.pin name leaf self.old.draft)) reply.new.items refused self.new) }
     {
-        if !is_single(&operator) {
-            return refuse(number, reply);
+        let done = tried(self.draft.pin(name, leaf));
+        answer_edit(number, done, &mut self.images, reply)
+    }
+
+    fn unpin(&mut self, number: u64, name: Name, reply: &mut Vec<u8>) -> Result<bool, NoMemory>
+        requires { reply.old.items ≡ [] }
+        ensures { IfOk result (λ refused. Tells (edits self.old number (edit.unpin name self.old.draft)) reply.new.items refused self.new) }
+    {
+        let done = tried(self.draft.unpin(name));
+        answer_edit(number, done, &mut self.images, reply)
+    }
+
+    fn pages(&mut self, number: u64, depth: u8, reply: &mut Vec<u8>) -> Result<bool, NoMemory>
+        requires { reply.old.items ≡ [] }
+        ensures { IfOk result (λ refused. Tells (repages self.old number depth) reply.new.items refused self.new) }
+    {
+        if depth < 1 || depth > 6 {
+            return refuse(number, Refusal::BadLine, reply);
         }
-        put_ok(reply)?;
-        self.operator = Some(Added { name, operator });
+        let done = tried(self.draft.pages(depth));
+        answer_edit(number, done, &mut self.images, reply)
+    }
+
+    fn feed(
+        &mut self,
+        number: u64,
+        name: Name,
+        words: &WordList,
+        reply: &mut Vec<u8>,
+    ) -> Result<bool, NoMemory>
+        requires { reply.old.items ≡ [] }
+        ensures { IfOk result (λ refused. Tells (feeds self.old number (edit.feed name words.now self.old.draft)) reply.new.items refused self.new) }
+    {
+        let done = self.draft.feed(name, words);
+        answer_feed(number, done, reply)
+    }
+
+    fn clear(&mut self, number: u64, name: Name, reply: &mut Vec<u8>) -> Result<bool, NoMemory>
+        requires { reply.old.items ≡ [] }
+        ensures { IfOk result (λ refused. Tells (feeds self.old number (edit.clear name self.old.draft)) reply.new.items refused self.new) }
+    {
+        let done = tried(self.draft.clear(name));
+        answer_feed(number, done, reply)
+    }
+
+    /// Builds the design: compiles each distinct pair of kind and text once.
+    fn build(
+        &mut self,
+        alloc: Global,
+        number: u64,
+        bench: &mut Bench<Record>,
+        reply: &mut Vec<u8>,
+    ) -> Result<bool, NoMemory>
+        requires empty { reply.old.items ≡ [] }
+        requires room { bench.old.permits + 64 < 2 ^ 64 }
+        ensures ok { IfOk result (λ refused. Took (answer_to self.old number (Some Statement.Build)) (Fits self.old) bench.old bench.new reply.new.items refused self.new) }
+        ensures err { OnErr result (Broke (answer_to self.old number (Some Statement.Build)) (Fits self.old) bench.old bench.new) }
+        ensures few { bench.new.permits ≤ bench.old.permits + 64 }
+    {
+        pairs_are_few();
+        let graph = self.draft.graph();
+        let sources = self.draft.sources();
+        if sources.is_empty() {
+            return refuse(number, Refusal::Empty, reply);
+        }
+        if let Err(open) = graph.closed() {
+            return refuse(number, Refusal::OpenPort(open), reply);
+        }
+        let _operators = graph.operators();
+        let operators = sources.len() as u64;
+        let pages = pages_in(graph.depth());
+        if pages < operators {
+            return refuse(number, Refusal::TooFewPages { operators, pages }, reply);
+        }
+        let built = build(alloc, &mut bench.permits, sources)?;
+        put_built(reply, operators, built.compiled)?;
+        self.images = Some(built.images);
         Ok(false)
     }
 
-    /// Whether an input with this name may be joined to this end.
-    fn may_input(&self, name: &Name, to: &End) -> bool
-        ensures { result ≡ may_input_of self.now name.now to.now }
+    /// Tells the bytes of an operator's image.
+    fn dump_image(
+        &self,
+        alloc: Global,
+        number: u64,
+        name: Name,
+        reply: &mut Vec<u8>,
+    ) -> Result<bool, NoMemory>
+        requires { reply.old.items ≡ [] }
+        ensures { IfOk result (λ refused. Tells (dumps self.now number name) reply.new.items refused self.now) }
     {
-        if self.input.is_some() {
-            return false;
-        }
-        match &self.operator {
-            None => false,
-            Some(added) => !name.is_same(&added.name) && is_first_in(&added.name, to),
-        }
+        let Some(images) = &self.images else {
+            return refuse(number, Refusal::NotBuilt, reply);
+        };
+        let _sources = self.draft.sources();
+        let Some(k) = self.draft.graph().place_of(&name) else {
+            return refuse(number, Refusal::Graph(GraphFault::UnknownOperator), reply);
+        };
+        let bytes = image_bytes(alloc, &images[k])?;
+        put_image(reply, &name, bytes.as_slice())?;
+        Ok(false)
     }
 
-    /// Whether an output with this name may be joined to this end.
-    fn may_output(&self, from: &End, name: &Name) -> bool
-        ensures { result ≡ may_output_of self.now from.now name.now }
+    /// Runs the design as it was built, with the words of its inputs as they stand. Room for the reply and for the record is
+    /// taken before the run.
+    fn run(
+        &mut self,
+        alloc: Global,
+        number: u64,
+        bench: &mut Bench<Record>,
+        reply: &mut Vec<u8>,
+    ) -> Result<bool, NoMemory>
+        requires { reply.old.items ≡ [] }
+        ensures ok { IfOk result (λ refused. Took (answer_to self.old number (Some Statement.Run)) (Fits self.old) bench.old bench.new reply.new.items refused self.new) }
+        ensures err { OnErr result (Broke (answer_to self.old number (Some Statement.Run)) (Fits self.old) bench.old bench.new) }
+        ensures few { bench.new.permits ≤ bench.old.permits + 64 }
     {
-        if self.output.is_some() || !differs(name, &self.input) {
-            return false;
+        let Some(images) = &self.images else {
+            return refuse(number, Refusal::NotBuilt, reply);
+        };
+        if self.runs >= RUNS {
+            return refuse(number, Refusal::TooManyRuns, reply);
         }
-        match &self.operator {
-            None => false,
-            Some(added) => !name.is_same(&added.name) && is_first_out(&added.name, from),
-        }
-    }
-
-    /// Whether the input with this name may get these words.
-    fn may_feed(&self, name: &Name, words: &WordList) -> bool
-        ensures { result ≡ may_feed_of self.now name.now words.now }
-    {
-        if self.feed.is_some() || self.output.is_none() {
-            return false;
-        }
-        is_name(name, &self.input) && words.len() <= FEED_WORDS
+        let _sources = self.draft.sources();
+        let graph = self.draft.graph();
+        let names = operator_names(alloc, graph)?;
+        let outputs = output_names(alloc, graph)?;
+        bench.records.reserve(1)?;
+        reply.reserve(reply_room(graph, self.rounds))?;
+        let world = run_design(alloc, self.rounds, &self.draft, images.as_slice())?;
+        put_run(reply, names.as_slice(), outputs.as_slice(), &world)?;
+        bench.records.push(world.finish())?;
+        self.runs += 1;
+        Ok(false)
     }
 
     /// Answers a statement. `quit` has no reply; the driver ends the session there.
@@ -181,249 +323,34 @@ impl Session {
         ensures few { bench.new.permits ≤ bench.old.permits + 64 }
     {
         match statement {
-            Statement::Op(name, kind, text) => self.add(alloc, number, name, kind, &text, reply),
-            Statement::Input(name, to) => self.join_input(number, name, to, reply),
-            Statement::Output(from, name) => self.join_output(number, from, name, reply),
-            Statement::Feed(name, words) => self.take_feed(number, name, words, reply),
+            Statement::Op(name, kind, text) => self.op(alloc, number, name, kind, text, reply),
+            Statement::Replace(name, kind, text) => {
+                self.replace(alloc, number, name, kind, text, reply)
+            }
+            Statement::Remove(name) => self.remove(number, name, reply),
+            Statement::Connect(from, to) => self.connect(number, from, to, reply),
+            Statement::Disconnect(what) => self.disconnect(number, what, reply),
+            Statement::Input(name, to) => self.input(alloc, number, name, to, reply),
+            Statement::Output(from, name) => self.output(number, from, name, reply),
+            Statement::Pin(name, leaf) => self.pin(number, name, leaf, reply),
+            Statement::Unpin(name) => self.unpin(number, name, reply),
+            Statement::Pages(depth) => self.pages(number, depth, reply),
+            Statement::Feed(name, words) => self.feed(number, name, &words, reply),
+            Statement::Clear(name) => self.clear(number, name, reply),
             Statement::Build => self.build(alloc, number, bench, reply),
             Statement::Run => self.run(alloc, number, bench, reply),
+            Statement::DumpImage(name) => self.dump_image(alloc, number, name, reply),
             Statement::Quit => Ok(false),
         }
     }
-
-    /// Joins an input to an end.
-    fn join_input(
-        &mut self,
-        number: u64,
-        name: Name,
-        to: End,
-        reply: &mut Vec<u8>,
-    ) -> Result<bool, NoMemory>
-        requires { reply.old.items ≡ [] }
-        ensures { IfOk result (λ refused. Tells (accepts_if (may_input_of self.old name to) self.old number (record self.old { input = Some name })) reply.new.items refused self.new) }
-    {
-        if !self.may_input(&name, &to) {
-            return refuse(number, reply);
-        }
-        put_ok(reply)?;
-        self.input = Some(name);
-        Ok(false)
-    }
-
-    /// Joins an output to an end.
-    fn join_output(
-        &mut self,
-        number: u64,
-        from: End,
-        name: Name,
-        reply: &mut Vec<u8>,
-    ) -> Result<bool, NoMemory>
-        requires { reply.old.items ≡ [] }
-        ensures { IfOk result (λ refused. Tells (accepts_if (may_output_of self.old from name) self.old number (record self.old { output = Some name })) reply.new.items refused self.new) }
-    {
-        if !self.may_output(&from, &name) {
-            return refuse(number, reply);
-        }
-        put_ok(reply)?;
-        self.output = Some(name);
-        Ok(false)
-    }
-
-    /// Takes the words of an input.
-    fn take_feed(
-        &mut self,
-        number: u64,
-        name: Name,
-        words: WordList,
-        reply: &mut Vec<u8>,
-    ) -> Result<bool, NoMemory>
-        requires { reply.old.items ≡ [] }
-        ensures { IfOk result (λ refused. Tells (accepts_if (may_feed_of self.old name words) self.old number (record self.old { feed = Some words })) reply.new.items refused self.new) }
-    {
-        if !self.may_feed(&name, &words) {
-            return refuse(number, reply);
-        }
-        put_ok(reply)?;
-        self.feed = Some(words);
-        Ok(false)
-    }
-
-    /// Builds the operator.
-    fn build(
-        &mut self,
-        alloc: Global,
-        number: u64,
-        bench: &mut Bench<Record>,
-        reply: &mut Vec<u8>,
-    ) -> Result<bool, NoMemory>
-        requires empty { reply.old.items ≡ [] }
-        requires room { bench.old.permits + 64 < 2 ^ 64 }
-        ensures ok { IfOk result (λ refused. Took (answer self.old (record { number = number; said = Some Statement.Build })) (Fits self.old) bench.old bench.new reply.new.items refused self.new) }
-        ensures err { OnErr result (Broke (answer self.old (record { number = number; said = Some Statement.Build })) (Fits self.old) bench.old bench.new) }
-        ensures few { bench.new.permits ≤ bench.old.permits + 64 }
-    {
-        if self.image.is_some() || self.feed.is_none() {
-            return refuse(number, reply);
-        }
-        match &self.operator {
-            None => refuse(number, reply),
-            Some(added) => {
-                let image = compile(alloc, &mut bench.permits, &added.operator)?;
-                put_built(reply, 1, 1)?;
-                self.image = Some(image);
-                Ok(false)
-            }
-        }
-    }
-
-    /// Runs the image.
-    fn run(
-        &mut self,
-        alloc: Global,
-        number: u64,
-        bench: &mut Bench<Record>,
-        reply: &mut Vec<u8>,
-    ) -> Result<bool, NoMemory>
-        requires { reply.old.items ≡ [] }
-        ensures ok { IfOk result (λ refused. Took (answer self.old (record { number = number; said = Some Statement.Run })) (Fits self.old) bench.old bench.new reply.new.items refused self.new) }
-        ensures err { OnErr result (Broke (answer self.old (record { number = number; said = Some Statement.Run })) (Fits self.old) bench.old bench.new) }
-        ensures few { bench.new.permits ≤ bench.old.permits + 64 }
-    {
-        if self.ran {
-            return refuse(number, reply);
-        }
-        match (&self.operator, &self.output, &self.feed, &self.image) {
-            (Some(added), Some(output), Some(feed), Some(image)) => {
-                bench.records.reserve(1)?;
-                reply.reserve(reply_room(self.rounds))?;
-                let world = run_alone(alloc, self.rounds, &added.operator, image, feed.as_slice())?;
-                put_run(reply, &[added.name], &[*output], &world)?;
-                bench.records.push(world.finish())?;
-                self.ran = true;
-                Ok(false)
-            }
-            _ => refuse(number, reply),
-        }
-    }
 }
 
-/// Room for the reply to a run of one operator and one output: a line of each kind, and at most 11 bytes a
-/// round for the output's words.
-fn reply_room(rounds: u64) -> usize
-    requires { rounds ≤ 1000000 }
+/// How many leaves of a tree of this depth are pages: all but the host's.
+fn pages_in(depth: u8) -> u64
+    requires { depth ≤ 6 }
+    ensures { result ≡ pages_of depth }
 {
-    256 + 11 * rounds as usize
-}
-
-/// Runs the image of an operator on a feed, with so many rounds. All memory of the run is taken before its
-/// first entry.
-fn run_alone(
-    alloc: Global,
-    rounds: u64,
-    operator: &Checked,
-    image: &Image,
-    feed: &[u32],
-) -> Result<World, NoMemory>
-    requires some { 1 ≤ rounds }
-    requires most { rounds ≤ 1000000 }
-    requires built { image.now ≡ soft_form operator.now }
-    ensures fits { IfOk result (λ world. (name output : List ℕ) → FitsParts rounds (record { name = name; operator = operator.now; output = output; feed = feed.now; image = image.now }) (record { plan = world.plan; journal = world.journal })) }
-{
-    code_keeps_the_meaning();
-    cores_are_processes();
-    operators_are_processes(operator.operator());
-    are_words(feed);
-    plain_is_legal();
-    runs_keep_their_promise();
-    let plan = plan_alone(alloc, rounds, image, feed)?;
-    let world = World::prepare(alloc, plan)?;
-    Ok(run_plain(world))
-}
-
-/// Each number of a feed is a word.
-fn are_words(feed: &[u32])
-    ensures { All IsWord feed.now }
-{
-    let _ = feed;
-}
-
-/// Compiles an operator with one permit of these.
-fn compile(alloc: Global, permits: &mut Permits, operator: &Checked) -> Result<Image, NoMemory>
-    requires { permits.old + 64 < 2 ^ 64 }
-    ensures image { IfOk result (λ image. image ≡ soft_form operator.now) }
-    ensures ok { OnOk result (permits.new ≡ permits.old + 1) }
-    ensures err { OnErr result ((permits.old ≤ permits.new) × (permits.new ≤ permits.old + 1)) }
-{
-    let mut issued = permits.issue(alloc, 1)?;
-    match issued.pop() {
-        Some(permit) => compile_soft(alloc, permit, operator),
-        None => Err(NoMemory),
-    }
-}
-
-/// Whether the end is the operator's first in-port.
-fn is_first_in(name: &Name, end: &End) -> bool
-    ensures { result ≡ is_first_in_of name.now end.now }
-{
-    match end.side {
-        Side::In => end.op.is_same(name) && end.port.0 == 0,
-        Side::Out => false,
-    }
-}
-
-/// Whether the end is the operator's first out-port.
-fn is_first_out(name: &Name, end: &End) -> bool
-    ensures { result ≡ is_first_out_of name.now end.now }
-{
-    match end.side {
-        Side::In => false,
-        Side::Out => end.op.is_same(name) && end.port.0 == 0,
-    }
-}
-
-/// Whether there is another name, which differs.
-fn differs(name: &Name, other: &Option<Name>) -> bool
-    ensures { result ≡ differs_from name.now other.now }
-{
-    match other {
-        None => false,
-        Some(other) => !name.is_same(other),
-    }
-}
-
-/// Whether there is another name, which is the same.
-fn is_name(name: &Name, other: &Option<Name>) -> bool
-    ensures { result ≡ is_name_of name.now other.now }
-{
-    match other {
-        None => false,
-        Some(other) => name.is_same(other),
-    }
-}
-
-/// Whether the operator has one in-port and one out-port.
-fn is_single(operator: &Checked) -> bool
-    ensures { result ≡ is_single_of operator.now }
-{
-    operator.ins() == 1 && operator.outs() == 1
-}
-
-/// Refuses an operator for its text's fault.
-fn refuse_source(number: u64, fault: SourceFault, reply: &mut Vec<u8>) -> Result<bool, NoMemory>
-    requires { reply.old.items ≡ [] }
-    ensures { IfOk result (λ refused. (refused ≡ true) × (reply.new.items ≡ source_reply number fault)) }
-{
-    put_source(reply, number, fault)?;
-    Ok(true)
-}
-
-/// Refuses a statement.
-fn refuse(number: u64, reply: &mut Vec<u8>) -> Result<bool, NoMemory>
-    requires { reply.old.items ≡ [] }
-    ensures { IfOk result (λ refused. (refused ≡ true) × (reply.new.items ≡ bad_line_reply number)) }
-{
-    put_bad_line(reply, number)?;
-    Ok(true)
+    (1u64 << depth) - 1
 }
 
 impl Engine for Session {
@@ -444,7 +371,7 @@ impl Engine for Session {
         reply: &mut Vec<u8>,
     ) -> Result<bool, NoMemory> {
         match said {
-            None => refuse(number, reply),
+            None => refuse(number, Refusal::BadLine, reply),
             Some(statement) => self.answer_statement(alloc, number, statement, bench, reply),
         }
     }

@@ -50,7 +50,7 @@ pub fn pld_plain<S: Source, K: Sink>(
     ensures read_fault { result ≡ Status.ReadFault → Rose (S.faults src.old) (S.faults src.new) }
     ensures write_fault { result ≡ Status.WriteFault → Rose (K.faults sink.old) (K.faults sink.new) }
 {
-    let mut session = Session::new(o.rounds);
+    let mut session = Session::new(alloc, o.rounds);
     run(alloc, src, sink, &mut session, bench)
 }
 

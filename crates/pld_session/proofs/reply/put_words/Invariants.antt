@@ -1,6 +1,0 @@
-use Rattle.std.proofs.Common.{◌≡◌, ◌++◌, take}
-use Rattle.direct_world.specs.Reply.{spaced}
-use Rattle.pld_session.proofs.reply.put_words.Given as goal
-
-abbrev pub invariant-loop-word : goal.invariant-loop-word
-invariant-loop-word l = l.reply.items ≡ l.fn.reply.items ++ spaced (take l.word-index l.words)
