@@ -12,16 +12,14 @@ type Row = (&'static [u8], &'static [u8]);
 /// The text with another word in the place of each `KIND`.
 fn of_kind(alloc: Global, text: &[u8], kind: &[u8]) -> Result<Vec<u8>, NoMemory> {
     let mut out = Vec::new(alloc);
-    let mut rest = text;
-    while let [first, behind @ ..] = rest {
-        match rest {
-            [b'K', b'I', b'N', b'D', after @ ..] => {
+    let mut passed = 0usize;
+    for (k, byte) in text.iter().enumerate() {
+        if k >= passed {
+            if text[k..].starts_with(b"KIND") {
                 out.extend_from_slice(kind)?;
-                rest = after;
-            }
-            _ => {
-                out.push(*first)?;
-                rest = behind;
+                passed = k.saturating_add(4);
+            } else {
+                out.push(*byte)?;
             }
         }
     }
