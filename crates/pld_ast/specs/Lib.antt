@@ -1,4 +1,5 @@
 pub mod Nodes
+pub mod Ops
 pub mod Program
 pub mod Resolve
 pub mod Meaning

@@ -55,7 +55,8 @@ pub fn type_of_array(arrays: &[Array], name: &Name) -> Ty
     }
 }
 
-fn join(s: Ty, t: Ty) -> Ty
+/// The type of two operands together: unsigned where one of them is.
+pub fn join(s: Ty, t: Ty) -> Ty
     ensures { result ≡ joined s t }
 {
     match s {
@@ -64,7 +65,8 @@ fn join(s: Ty, t: Ty) -> Ty
     }
 }
 
-fn type_after(o: UnOp, t: Ty) -> Ty
+/// The type of a prefix operation.
+pub fn type_after(o: UnOp, t: Ty) -> Ty
     ensures { result ≡ unary_type o t }
 {
     match o {
@@ -73,7 +75,8 @@ fn type_after(o: UnOp, t: Ty) -> Ty
     }
 }
 
-fn type_between(o: BinOp, s: Ty, t: Ty) -> Ty
+/// The type of an infix operation, at its operands' types.
+pub fn type_between(o: BinOp, s: Ty, t: Ty) -> Ty
     ensures { result ≡ binary_type o s t }
 {
     match o {

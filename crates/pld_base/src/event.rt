@@ -7,7 +7,7 @@ use crate::Name;
 pub struct PageId(pub u8);
 
 /// A port's number, from 0 to 7. In-ports and out-ports are numbered apart.
-#[derive(Clone, Copy, Debug, PartialEq, Eq)]
+#[derive(Clone, Copy, Debug, PartialEq, Eq, Hash)]
 pub struct PortNo(pub u8);
 
 /// A round's number, counted from the start of its run.
@@ -22,21 +22,21 @@ pub struct Place {
 }
 
 /// The kind of page that an operator is compiled for.
-#[derive(Clone, Copy, Debug, PartialEq, Eq)]
+#[derive(Clone, Copy, Debug, PartialEq, Eq, Hash)]
 pub enum Kind {
     Soft,
     Hard,
 }
 
 /// Whether a port takes words in or gives words out.
-#[derive(Clone, Copy, Debug, PartialEq, Eq)]
+#[derive(Clone, Copy, Debug, PartialEq, Eq, Hash)]
 pub enum Side {
     In,
     Out,
 }
 
 /// A port of an operator, as a session's text names it: `inc.i0`.
-#[derive(Clone, Copy, Debug, PartialEq, Eq)]
+#[derive(Clone, Copy, Debug, PartialEq, Eq, Hash)]
 pub struct End {
     pub op: Name,
     pub side: Side,

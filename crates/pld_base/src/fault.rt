@@ -25,6 +25,8 @@ pub enum FaultKind {
     NameTwice,
     WrongKind,
     WrongDirection,
+    BadAsm,
+    OutOfRange,
     TooLarge(Limit),
 }
 

@@ -4,12 +4,16 @@ ghost use Rattle.std.specs.Prelude.{◌≡◌, ◌≤◌, ◌&&◌, length, true
 ghost use Rattle.std.specs.Str.{bytes_eq};
 ghost use Rattle.std.specs.List.{list_all};
 ghost use Rattle.pld_base.specs.Names.{name_in, is_letter as is_letter_of, is_letter_or_digit as is_letter_or_digit_of, is_identifier as is_identifier_of};
+ghost use Rattle.std.specs.Prelude.{[], ◌∷◌};
+ghost use Rattle.std.proofs.Common.{rules};
+ghost use Rattle.std.specs.Cmp.Rules.{comparing, hashing};
 
+use std::hash::{Hash, Hasher};
 use std::marker::Model;
 
 /// An identifier of 1 to 32 bytes: a letter or `_`, then letters, digits and `_`.
 /// Contracts see it as the list of its bytes.
-#[derive(Clone, Copy, PartialEq, Eq, Debug)]
+#[derive(Clone, Copy, Debug)]
 pub struct Name {
     bytes: [u8; 32],
     len: usize,
@@ -98,5 +102,30 @@ impl Name {
         ensures { result ≡ bytes_eq self.now other.now }
     {
         self.bytes[..self.len] == other.bytes[..other.len]
+    }
+}
+
+impl PartialEq for Name {
+    ghost eq = { bytes_eq };
+
+    ghost laws = { Prim.search (comparing, rules) };
+
+    fn eq(&self, other: &Name) -> bool {
+        self.is_same(other)
+    }
+}
+
+impl Eq for Name {
+    ghost laws = { Prim.search (comparing, rules) };
+}
+
+// A name is hashed as its text.
+impl Hash for Name {
+    ghost hash_input = { λ name. name ∷ [] };
+
+    ghost respects_eq = { Prim.search (hashing, rules) };
+
+    fn hash<H: Hasher>(&self, state: &mut H) {
+        state.write(self.as_bytes());
     }
 }

@@ -131,6 +131,14 @@ impl Checked {
         }
     }
 
+    /// This operator, whose names are declared and which is within the limits. Nothing is tested.
+    pub fn of_sound(operator: Operator) -> Checked
+        requires { IsSound (program_of operator) }
+        ensures { result ≡ operator }
+    {
+        Checked { operator }
+    }
+
     /// The operator.
     pub fn operator(&self) -> &Operator
         ensures value { result.now ≡ self.now }

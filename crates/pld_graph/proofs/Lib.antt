@@ -1,3 +1,7 @@
+pub mod Once
+pub mod Frees
+pub mod Ended
+pub mod Named
 mod Opens
 pub mod Sounds
 pub mod Refusals

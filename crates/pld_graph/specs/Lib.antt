@@ -1,4 +1,6 @@
+pub mod Entries
 pub mod Parts
 pub mod Design
 pub mod Edits
 pub mod Sound
+pub mod Joined

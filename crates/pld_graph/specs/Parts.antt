@@ -73,3 +73,13 @@ is_host name c = passes (λ n. bytes_eq n name) (from_input c.from) || passes (�
 abbrev pub is_cut : Cut → Channel → Bool
 is_cut (cut.Port e) c = stands_at (same_end e) c
 is_cut (cut.Host n) c = is_host n c
+
+-- the same producing end
+abbrev pub same_from : FromEnd → FromEnd → Bool
+same_from (from_end.Port a) f = passes (same_end a) (from_port f)
+same_from (from_end.Input a) f = passes (λ n. bytes_eq n a) (from_input f)
+
+-- the same consuming end
+abbrev pub same_to : ToEnd → ToEnd → Bool
+same_to (to_end.Port a) t = passes (same_end a) (to_port t)
+same_to (to_end.Output a) t = passes (λ n. bytes_eq n a) (to_output t)

@@ -8,7 +8,9 @@ ghost use Rattle.pld_graph.specs.Design.{Design, fresh, place_of as place_in, op
 ghost use Rattle.pld_graph.specs.Sound.{IsSound};
 ghost use Rattle.pld_graph.specs.Edits.{when, with_channel, add_refusal, added, replaced, removed, connect_refusal, connected, with_input, with_output, disconnected, cut_refusal, pinned, unpinned, repaged, unknown, misdirected, lacking, taken, full, host_refusal, fault_in, Edits, Tries};
 
-use crate::{Channel, Cut, FromEnd, GraphFault, OpenPort, OperatorEntry, ToEnd, looks};
+use crate::channels::Channels;
+use crate::operators::Operators;
+use crate::{Channel, Cut, FromEnd, GraphFault, OpenPort, ToEnd, looks};
 use pld_base::{End, Name, NoMemory, Refused, Side};
 use std::alloc::Global;
 use std::marker::Model;
@@ -30,8 +32,8 @@ const MOST_HOSTS: usize = 8;
 /// leaves of the tree, of one operator each. `operators` and `channels` tell it.
 #[derive(Drop)]
 pub struct Graph {
-    operators: Vec<OperatorEntry>,
-    channels: Vec<Channel>,
+    operators: Operators,
+    channels: Channels,
     depth: u8,
 }
 
@@ -41,9 +43,9 @@ impl Model for Graph {
 
     ghost Value = { Design };
 
-    ghost view = { λ g. record { operators = g.operators.items; channels = g.channels.items; depth = g.depth } };
+    ghost view = { λ g. record { operators = g.operators; channels = g.channels; depth = g.depth } };
 
-    ghost invariant = { λ g. IsSound (record { operators = g.operators.items; channels = g.channels.items; depth = g.depth }) };
+    ghost invariant = { λ g. IsSound (record { operators = g.operators; channels = g.channels; depth = g.depth }) };
 }
 
 // The fault, where this holds.
@@ -71,8 +73,8 @@ impl Graph {
         ensures { result ≡ fresh depth }
     {
         Graph {
-            operators: Vec::new(alloc),
-            channels: Vec::new(alloc),
+            operators: Operators::new(alloc),
+            channels: Channels::new(alloc),
             depth,
         }
     }
@@ -90,9 +92,9 @@ impl Graph {
     fn free(&self, name: &Name) -> Result<(), GraphFault>
         ensures { fault_in result ≡ when (is_named name.now self.now) NameTaken }
     {
-        let operator = looks::place_of(&self.operators, name).is_some();
+        let operator = self.operators.place_of(name).is_some();
         refuse(
-            operator || looks::has_host(&self.channels, name),
+            operator || self.channels.has_host(name),
             GraphFault::NameTaken,
         )
     }
@@ -102,7 +104,7 @@ impl Graph {
         ensures { fault_in result ≡ unknown end.now self.now }
     {
         refuse(
-            looks::place_of(&self.operators, &end.op).is_none(),
+            self.operators.place_of(&end.op).is_none(),
             GraphFault::UnknownOperator,
         )
     }
@@ -111,7 +113,7 @@ impl Graph {
     fn has(&self, end: &End) -> Result<(), GraphFault>
         ensures { fault_in result ≡ lacking end.now self.now }
     {
-        match looks::operator_called(&self.operators, &end.op) {
+        match self.operators.called(&end.op) {
             Some(o) => refuse(
                 !looks::is_below(o.ins, o.outs, end),
                 GraphFault::UnknownPort,
@@ -124,7 +126,7 @@ impl Graph {
     fn untaken(&self, end: &End) -> Result<(), GraphFault>
         ensures { fault_in result ≡ taken end.now self.now }
     {
-        refuse(looks::is_linked(&self.channels, end), GraphFault::PortTaken)
+        refuse(self.channels.is_linked(end), GraphFault::PortTaken)
     }
 
     // TooMany where 256 channels stand.
@@ -140,7 +142,7 @@ impl Graph {
         requires { IsSound (with_channel (record { from = from; to = to }) self.old) }
         ensures { MatchResult result (λ _done. self.new ≡ with_channel (record { from = from; to = to }) self.old) (λ e. (e ≡ refused.NoMemory) × (self.new ≡ self.old)) }
     {
-        match looks::push_channel(&mut self.channels, from, to) {
+        match self.channels.push(&from, &to) {
             Ok(()) => Ok(()),
             Err(NoMemory) => Err(Refused::NoMemory),
         }
@@ -193,17 +195,9 @@ impl Graph {
                 self.known(end)?;
                 directed(end, Side::Out)?;
                 self.has(end)?;
-                refuse(
-                    !looks::is_linked(&self.channels, end),
-                    GraphFault::NotLinked,
-                )
+                refuse(!self.channels.is_linked(end), GraphFault::NotLinked)
             }
-            Cut::Host(name) => {
-                refuse(
-                    !looks::has_host(&self.channels, name),
-                    GraphFault::NotLinked,
-                )
-            }
+            Cut::Host(name) => { refuse(!self.channels.has_host(name), GraphFault::NotLinked) }
         }
     }
 
@@ -216,14 +210,9 @@ impl Graph {
         if let Err(fault) = self.may_add(&name) {
             return Err(Refused::Fault(fault));
         }
-        match self.operators.push(OperatorEntry {
-            name,
-            ins,
-            outs,
-            pin: None,
-        }) {
+        match self.operators.push(name, ins, outs) {
             Ok(()) => Ok(()),
-            Err(_) => Err(Refused::NoMemory),
+            Err(NoMemory) => Err(Refused::NoMemory),
         }
     }
 
@@ -234,18 +223,14 @@ impl Graph {
     pub fn replace(&mut self, name: Name, ins: u8, outs: u8) -> Result<(), GraphFault>
         ensures { Edits result (replaced name ins outs self.old) self.old self.new }
     {
-        let Some(k) = looks::place_of(&self.operators, &name) else {
+        let Some(k) = self.operators.place_of(&name) else {
             return Err(GraphFault::UnknownOperator);
         };
         refuse(
-            looks::some_lost(&self.channels, &name, ins, outs),
+            self.channels.some_lost(&name, ins, outs),
             GraphFault::UnknownPort,
         )?;
-        self.operators[k] = OperatorEntry {
-            ins,
-            outs,
-            ..self.operators[k]
-        };
+        self.operators.set_counts(k, ins, outs);
         Ok(())
     }
 
@@ -255,11 +240,11 @@ impl Graph {
     pub fn remove(&mut self, name: Name) -> Result<(), GraphFault>
         ensures { Edits result (removed name self.old) self.old self.new }
     {
-        let Some(k) = looks::place_of(&self.operators, &name) else {
+        let Some(k) = self.operators.place_of(&name) else {
             return Err(GraphFault::UnknownOperator);
         };
         self.operators.remove(k);
-        looks::drop_of(&mut self.channels, &name);
+        self.channels.drop_of(&name);
         Ok(())
     }
 
@@ -285,7 +270,7 @@ impl Graph {
         ensures { Edits result (disconnected what self.old) self.old self.new }
     {
         self.may_cut(&what)?;
-        looks::drop_cut(&mut self.channels, &what);
+        self.channels.drop_cut(&what);
         Ok(())
     }
 
@@ -322,17 +307,14 @@ impl Graph {
     pub fn pin(&mut self, name: Name, leaf: u16) -> Result<(), GraphFault>
         ensures { Edits result (pinned name leaf self.old) self.old self.new }
     {
-        let Some(k) = looks::place_of(&self.operators, &name) else {
+        let Some(k) = self.operators.place_of(&name) else {
             return Err(GraphFault::UnknownOperator);
         };
         let Some(leaf) = looks::leaf_within(self.depth, leaf) else {
             return Err(GraphFault::LeafRange);
         };
-        refuse(
-            looks::is_pinned_elsewhere(&self.operators, &name, leaf),
-            GraphFault::LeafTaken,
-        )?;
-        self.operators[k].pin = Some(leaf);
+        refuse(self.operators.has_rival(&name, leaf), GraphFault::LeafTaken)?;
+        self.operators.set_pin(k, Some(leaf));
         Ok(())
     }
 
@@ -342,10 +324,10 @@ impl Graph {
     pub fn unpin(&mut self, name: Name) -> Result<(), GraphFault>
         ensures { Edits result (unpinned name self.old) self.old self.new }
     {
-        let Some(k) = looks::place_of(&self.operators, &name) else {
+        let Some(k) = self.operators.place_of(&name) else {
             return Err(GraphFault::UnknownOperator);
         };
-        self.operators[k].pin = None;
+        self.operators.set_pin(k, None);
         Ok(())
     }
 
@@ -357,10 +339,7 @@ impl Graph {
         requires most { depth ≤ 6 }
         ensures { Edits result (repaged depth self.old) self.old self.new }
     {
-        refuse(
-            looks::some_outside(&self.operators, depth),
-            GraphFault::LeafRange,
-        )?;
+        refuse(self.operators.some_outside(depth), GraphFault::LeafRange)?;
         self.depth = depth;
         Ok(())
     }
@@ -389,7 +368,7 @@ impl Graph {
         requires { k < length self.now.operators }
         ensures { let o = operator_at self.now.operators k in result ≡ (o.name, o.ins, o.outs) }
     {
-        let o = &self.operators[k];
+        let o = self.operators.at(k);
         (o.name, o.ins, o.outs)
     }
 
@@ -398,14 +377,14 @@ impl Graph {
         ensures place { result ≡ place_in name.now self.now }
         ensures within { IfSome result (λ k. k < length self.now.operators) }
     {
-        looks::place_of(&self.operators, name)
+        self.operators.place_of(name)
     }
 
     /// Whether an input has this name.
     pub fn is_input(&self, name: &Name) -> bool
         ensures { result ≡ is_input_of name.now self.now.channels }
     {
-        looks::is_input(&self.channels, name)
+        self.channels.is_input(name)
     }
 
     /// How many channels there are.
@@ -421,44 +400,44 @@ impl Graph {
         requires { k < length self.now.channels }
         ensures { slice_get self.now.channels k ≡ Some result }
     {
-        self.channels[k]
+        self.channels.at(k)
     }
 
     /// The leaf to which an operator is pinned. None where no operator has this name, or it has no pin.
     pub fn pin_of(&self, name: Name) -> Option<u8>
         ensures { result ≡ pin_in name self.now }
     {
-        let Some(k) = looks::place_of(&self.operators, &name) else {
+        let Some(k) = self.operators.place_of(&name) else {
             return None;
         };
-        self.operators[k].pin
+        self.operators.at(k).pin
     }
 
     /// How many inputs there are.
     pub fn inputs(&self) -> usize
         ensures { result ≡ length (inputs_of self.now.channels) }
     {
-        looks::inputs(&self.channels)
+        self.channels.inputs()
     }
 
     /// The name of the k-th input. None where there are no more than k.
     pub fn input_at(&self, k: usize) -> Option<Name>
         ensures { result ≡ slice_get (inputs_of self.now.channels) k }
     {
-        looks::input_at(&self.channels, k)
+        self.channels.input_at(k)
     }
 
     /// How many outputs there are.
     pub fn outputs(&self) -> usize
         ensures { result ≡ length (outputs_of self.now.channels) }
     {
-        looks::outputs(&self.channels)
+        self.channels.outputs()
     }
 
     /// The name of the k-th output. None where there are no more than k.
     pub fn output_at(&self, k: usize) -> Option<Name>
         ensures { result ≡ slice_get (outputs_of self.now.channels) k }
     {
-        looks::output_at(&self.channels, k)
+        self.channels.output_at(k)
     }
 }

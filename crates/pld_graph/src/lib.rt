@@ -1,8 +1,10 @@
 //! Designs: operators, channels between their ports, inputs and outputs, pins and a depth, and their edits.
 #![tactic(auto)]
 
+mod channels;
 mod graph;
 mod looks;
+mod operators;
 mod parts;
 
 pub use graph::Graph;

@@ -15,7 +15,7 @@ pub struct OperatorEntry {
 }
 
 /// The producing end of a channel.
-#[derive(Clone, Copy, Debug, PartialEq, Eq)]
+#[derive(Clone, Copy, Debug, PartialEq, Eq, Hash)]
 pub enum FromEnd {
     /// An out-port of an operator.
     Port(End),
@@ -24,7 +24,7 @@ pub enum FromEnd {
 }
 
 /// The consuming end of a channel.
-#[derive(Clone, Copy, Debug, PartialEq, Eq)]
+#[derive(Clone, Copy, Debug, PartialEq, Eq, Hash)]
 pub enum ToEnd {
     /// An in-port of an operator.
     Port(End),

@@ -12,7 +12,7 @@ use Rattle.pld_ast.specs.Meaning.{State, binary_of, index_in, value_of}
 use Rattle.pld_ast.specs.Resolve.{Names, op1_of, op2_of, type_of, array_no, value_in}
 use Rattle.pld_ast.specs.Sound.{IsKnownValue}
 use Rattle.pld_ast.proofs.Views.{value_in-Element, value_in-Unary, value_in-Binary, value_in-Cast}
-use Rattle.pld_mean.specs.Ops.{one_of}
+use Rattle.pld_ast.specs.Ops.{one_of}
 
 one_value : (l : List ℕ) (st : State) (o : UnOp) (v : Value) → value_of l (op1_of o v) st ≡ one_of o (value_of l v st)
 one_value l st un.Neg v = refl

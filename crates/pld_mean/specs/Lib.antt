@@ -1,4 +1,3 @@
-pub mod Ops
 pub mod Vars
 pub mod Targets
 pub mod Run

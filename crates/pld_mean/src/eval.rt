@@ -6,9 +6,8 @@ ghost use Rattle.pld_ast.specs.Resolve.{value_in, declared_in, place_in, program
 ghost use Rattle.pld_ast.specs.Sound.{IsSound, IsKnownValue};
 ghost use Rattle.pld_mean.specs.Vars.{state_of, rows_of};
 
-use crate::value::{apply, apply_one};
 use crate::vars::Vars;
-use pld_ast::{Array, Expr, Operator, array_place, scalar_place, type_in};
+use pld_ast::{Array, Expr, Operator, apply, apply_one, array_place, scalar_place, type_in};
 
 /// An index, modulo the length of an array that has a word at least.
 pub fn index_at(arrays: &[Array], t: usize, i: u32) -> usize

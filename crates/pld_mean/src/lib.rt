@@ -4,7 +4,6 @@
 mod eval;
 mod exec;
 mod run;
-mod value;
 mod vars;
 
 pub use run::{CRun, run_c};

@@ -36,6 +36,8 @@ kind_text fault.UnknownName = codes "UnknownName"
 kind_text fault.NameTwice = codes "NameTwice"
 kind_text fault.WrongKind = codes "WrongKind"
 kind_text fault.WrongDirection = codes "WrongDirection"
+kind_text fault.BadAsm = codes "BadAsm"
+kind_text fault.OutOfRange = codes "OutOfRange"
 kind_text (fault.TooLarge most) = codes "TooLarge(" ++ limit_text most ++ codes ")"
 
 -- the fault of an operator's text, with its line and column there

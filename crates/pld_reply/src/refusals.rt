@@ -60,6 +60,8 @@ fn put_kind(reply: &mut Vec<u8>, kind: FaultKind) -> Result<(), NoMemory>
         FaultKind::NameTwice => put_text(reply, b"NameTwice"),
         FaultKind::WrongKind => put_text(reply, b"WrongKind"),
         FaultKind::WrongDirection => put_text(reply, b"WrongDirection"),
+        FaultKind::BadAsm => put_text(reply, b"BadAsm"),
+        FaultKind::OutOfRange => put_text(reply, b"OutOfRange"),
         FaultKind::TooLarge(limit) => {
             put_text(reply, b"TooLarge(")?;
             put_limit(reply, limit)?;

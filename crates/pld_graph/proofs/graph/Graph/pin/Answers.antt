@@ -7,8 +7,8 @@ use Rattle.pld_graph.proofs.graph.Graph.pin.Goals as goal
 
 pub invariant_of-self : goal.invariant_of-self
 invariant_of-self c =
-    let d : Design = record { operators = c.self.inside.operators.items; channels = c.self.inside.channels.items; depth = c.self.inside.depth } in
+    let d : Design = record { operators = c.self.inside.operators; channels = c.self.inside.channels; depth = c.self.inside.depth } in
     let leaf = c.in-Some-leaf_within.ensures in
     let within : is_leaf d.depth c.in-Some-leaf_within.leaf ≡ true = subst (λ l. is_leaf d.depth l ≡ true) (sym leaf.1) leaf.0 in
-    let free = when_none c.is_pinned_elsewhere.result _ (sym c.refuse.ensures ∙ ap fault_in c.in_ok-refuse.was) in
-    pin_kept d c.args.name c.in-Some.k c.in-Some-leaf_within.leaf c.deref.result.now c.deref-2.result.now c.index_mut.result.now c.deref.ensures.value c.in-Some.ensures.within c.in-Some.ensures.place within c.deref-2.ensures.value (sym c.is_pinned_elsewhere.ensures ∙ free) c.index_mut.ensures.value c.self.invariant
+    let free = when_none c.has_rival.result _ (sym c.refuse.ensures ∙ ap fault_in c.in_ok-refuse.was) in
+    pin_kept d c.args.name c.in-Some.k c.in-Some-leaf_within.leaf _ c.in-Some.ensures.within c.in-Some.ensures.place within (sym c.has_rival.ensures ∙ free) c.set_pin.ensures c.self.invariant

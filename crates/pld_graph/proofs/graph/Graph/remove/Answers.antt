@@ -4,5 +4,5 @@ use Rattle.pld_graph.proofs.graph.Graph.remove.Goals as goal
 
 pub invariant_of-self : goal.invariant_of-self
 invariant_of-self c =
-    let d : Design = record { operators = c.self.inside.operators.items; channels = c.self.inside.channels.items; depth = c.self.inside.depth } in
-    remove_kept d c.args.name c.in-Some.k c.deref.result.now _ _ c.deref.ensures.value c.in-Some.ensures.within c.in-Some.ensures.place c.remove.ensures.items c.drop_of.ensures c.self.invariant
+    let d : Design = record { operators = c.self.inside.operators; channels = c.self.inside.channels; depth = c.self.inside.depth } in
+    remove_kept d c.args.name c.in-Some.k _ _ c.in-Some.ensures.within c.in-Some.ensures.place c.remove.ensures c.drop_of.ensures c.self.invariant

@@ -1,5 +1,0 @@
-use Rattle.std.proofs.Common.{length}
-use Rattle.pld_graph.proofs.looks.+output_at.Given as goal
-
-abbrev pub decreases-output_at : goal.decreases-output_at
-decreases-output_at l = length l.channels.now
