@@ -67,8 +67,4 @@ fn main(rt: HostRuntime) -> ExitCode {
 #[cfg(test)]
 mod designs;
 #[cfg(test)]
-mod rows;
-#[cfg(test)]
 mod tests;
-#[cfg(test)]
-mod texts;
