@@ -1,7 +1,7 @@
 -- Where a core stands at a state, and what its step is then.
 use Rattle.std.proofs.Common.{◌≡◌, ℕ, zero, suc, ◌<◌, List, [], ◌∷◌, length, get_or, map, Option, Some, Bool, true, false, refl, sym, ap, ◌∙◌, arith}
 use Rattle.std.specs.Prelude.{slice_get, if◌then◌else◌}
-use Rattle.std.proofs.lemmas.List.{get_or-map, length-map}
+use Rattle.std.proofs.lemmas.List.{get_or-map}
 use Rattle.fsm_core.specs.declared.micro.State.{State}
 use Rattle.fsm_core.specs.declared.stand.Stand.{Stand}
 use Rattle.fsm_core.specs.declared.stand.Stand.TheVariants as stand

@@ -1,11 +1,10 @@
 -- Many steps of a core, and of one that has operations to repeat.
-use Rattle.std.proofs.Common.{◌≡◌, ◌≢◌, ℕ, zero, suc, ◌+◌, ◌-◌, ◌<◌, List, [], ◌∷◌, length, refl, sym, ap, ◌∙◌, subst, arith}
+use Rattle.std.proofs.Common.{◌≡◌, ℕ, zero, suc, ◌+◌, ◌-◌, ◌<◌, List, [], ◌∷◌, length, refl, sym, ap, ◌∙◌, arith}
 use Rattle.pld_base.specs.declared.event.StepEnd.{StepEnd}
 use Rattle.pld_base.specs.declared.event.StepEnd.TheVariants.{Went, AtRead, AtWrite, Ended, Trapped}
 use Rattle.hot_swap.specs.Steps.{Meaning, after_answer, after_step}
 use Rattle.hot_swap.specs.Advances.{Ran, ran, ran_by}
 use Rattle.hot_swap.specs.Chase.{Chase, seen, chasing}
-use Rattle.hot_swap.specs.declared.log.Logged.{Logged}
 
 module _ {S : Type 0} (m : Meaning S) where
   -- one step more

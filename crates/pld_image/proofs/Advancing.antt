@@ -1,6 +1,5 @@
 -- Many steps of a page's core, in code and in turns.
 use Rattle.std.proofs.Common.{◌≡◌, ℕ, zero, suc, List, slice_get, refl, sym, ap, ◌∙◌, subst}
-use Rattle.pld_base.specs.Machine.{Move}
 use Rattle.pld_base.specs.declared.event.StepEnd.{StepEnd}
 use Rattle.pld_base.specs.declared.event.StepEnd.TheVariants as end
 use Rattle.hot_swap.specs.Steps.{Meaning, move_by, move_of}
