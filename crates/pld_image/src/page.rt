@@ -3,13 +3,14 @@
 ghost use Rattle.std.specs.Prelude.{◌≡◌, ◌≤◌, IfOk};
 ghost use Rattle.fsm_core.specs.Table.{IsTable, plan_in};
 ghost use Rattle.image_form.specs.Spelling.{Soft, Hard};
-ghost use Rattle.pld_image.specs.Cores.{load, next, core_in, core_of, turned, turned_in, turn_end, steps, after_read, after_write};
+ghost use Rattle.pld_image.specs.Cores.{load, core_in, core_of, turned, turn_end, after_read, after_write};
 ghost use Rattle.pld_image.specs.Standing.{IsAtRead, IsAtWrite, StandsAt};
-ghost use Rattle.pld_image.specs.Steps.{Stepped};
+ghost use Rattle.pld_image.specs.Steps.{turn_of};
 
 use crate::image::Image;
 use crate::laws::turns_are_steps;
 use fsm_core::{FsmCore, Table};
+use hot_swap::Steps;
 use image_form::ImageForm;
 use pld_base::{NoMemory, PortNo, StepEnd};
 use rv_core::RvCore;
@@ -29,7 +30,20 @@ pub enum TurnEnd {
 }
 
 /// The steps of a turn: one of a softcore is an instruction, and one of a hardware page a state.
-const STEPS: u16 = 256;
+pub(crate) const STEPS: u32 = 256;
+
+// How a turn ends whose last step ended so.
+pub(crate) fn turn_of(end: StepEnd) -> TurnEnd
+    ensures { result ≡ turn_of end }
+{
+    match end {
+        StepEnd::Went => TurnEnd::Limit,
+        StepEnd::AtRead(port) => TurnEnd::AtRead(port),
+        StepEnd::AtWrite(port, word) => TurnEnd::AtWrite(port, word),
+        StepEnd::Ended => TurnEnd::Ended,
+        StepEnd::Trapped(_) => TurnEnd::Ended,
+    }
+}
 
 // What runs an image.
 #[derive(Drop)]
@@ -79,34 +93,6 @@ impl PageCore {
         Ok(PageCore { runner })
     }
 
-    /// One step, if the core stands at no port and has not ended.
-    #[tactic(auto, unfolding(crate::specs::Cores::next, crate::specs::Cores::core_of))]
-    fn step(&mut self) -> StepEnd
-        ensures { Stepped (next (core_of self.old)) (core_of self.old) result (core_of self.new) }
-    {
-        match &mut self.runner {
-            Runner::Soft(core) => core.step(),
-            Runner::Hard(core) => core.step(),
-        }
-    }
-
-    /// At most so many steps.
-    fn turn_in(&mut self, most: u16) -> TurnEnd
-        ensures end { result ≡ (turned_in most (core_of self.old)).end }
-        ensures core { core_of self.new ≡ (turned_in most (core_of self.old)).core }
-    {
-        if most == 0 {
-            return TurnEnd::Limit;
-        }
-        match self.step() {
-            StepEnd::Went => self.turn_in(most - 1),
-            StepEnd::AtRead(port) => TurnEnd::AtRead(port),
-            StepEnd::AtWrite(port, word) => TurnEnd::AtWrite(port, word),
-            StepEnd::Ended => TurnEnd::Ended,
-            StepEnd::Trapped(_) => TurnEnd::Ended,
-        }
-    }
-
     /// One turn: steps until the core stands at a port operation or has ended, at most 256. After 256 steps
     /// it ends with `Limit`, whatever the next step would meet.
     #[tactic(auto, unfolding(crate::specs::Cores::turned, crate::specs::Cores::turn_end, crate::specs::Cores::steps))]
@@ -116,7 +102,7 @@ impl PageCore {
         ensures stands { StandsAt (core_of self.new) result }
     {
         turns_are_steps();
-        self.turn_in(STEPS)
+        turn_of(self.advance(STEPS))
     }
 
     /// The read at which the core stands gave this word.
@@ -141,5 +127,40 @@ impl PageCore {
             Runner::Soft(core) => core.resume_write(),
             Runner::Hard(core) => core.resume_write(),
         }
+    }
+}
+
+/// A step of the core is an instruction or a state. It may trap, as a softcore.
+impl Steps for PageCore {
+    ghost use Rattle.pld_image.specs.Cores.{Core, core_of};
+    ghost use Rattle.pld_image.specs.Steps.{page_meaning};
+
+    ghost State = { Core };
+
+    ghost state = { core_of };
+
+    ghost meaning = { page_meaning };
+
+    #[tactic(auto, unfolding(crate::specs::Cores::next, crate::specs::Cores::core_of, crate::specs::Steps::answer, crate::specs::Steps::stepped))]
+    fn step(&mut self) -> StepEnd {
+        match &mut self.runner {
+            Runner::Soft(core) => core.step(),
+            Runner::Hard(core) => core.step(),
+        }
+    }
+
+    fn advance(&mut self, most: u32) -> StepEnd {
+        match &mut self.runner {
+            Runner::Soft(core) => core.turn(most),
+            Runner::Hard(core) => core.turn(most),
+        }
+    }
+
+    fn resume_read(&mut self, word: u32) {
+        PageCore::resume_read(self, word);
+    }
+
+    fn resume_write(&mut self) {
+        PageCore::resume_write(self);
     }
 }

@@ -1,0 +1,9 @@
+pub mod Repeating
+pub mod Stepping
+pub mod Walks
+pub mod Meeting
+pub mod Changing
+pub mod Following
+pub mod Going
+pub mod Toys
+pub mod Advancing
