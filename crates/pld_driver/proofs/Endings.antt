@@ -1,18 +1,17 @@
 -- How a session ends.
-use Rattle.std.proofs.Common.{◌≡◌, ◌⊎◌, ℕ, ◌+◌, ◌-◌, ◌<◌, ◌≤◌, Bool, true, false, ◌||◌, List, [], ◌∷◌, ◌++◌, length, take, drop, Option, Some, None, All, refl, sym, ap, ◌∙◌, append_assoc, append-nil, subst, arith, inl, inr, length-append, ◌^◌, lit<, IsSome}
+use Rattle.std.proofs.Common.{◌≡◌, ◌⊎◌, ℕ, ◌+◌, ◌-◌, ◌<◌, ◌≤◌, Bool, true, false, ◌||◌, List, [], ◌∷◌, ◌++◌, length, take, drop, Option, Some, All, refl, sym, ap, ◌∙◌, append_assoc, append-nil, subst, arith, inl, inr, length-append, ◌^◌, lit<, IsSome}
 use Rattle.std.proofs.lemmas.List.Elements.{All-append, All-cons, All-nil}
 use Rattle.std.proofs.lemmas.List.{take-append-drop, drop-append-le, take_all, length-take}
 use Rattle.std.proofs.Math.Seq.{take-append-add}
-use Rattle.std.specs.Io.KnownBytes.{Appends, Consumes, IsAtEnd}
-use Rattle.std.proofs.KnownBytes.{Appends-trans, Appends-nil, Appends-kept, Consumes-trans, Consumes-nil}
+use Rattle.pld_io.specs.Outside.{SourceState, SinkState, Gives, GivesUntilFault, Accepts, AcceptsUntilFault}
 use Rattle.pld_script.specs.declared.statement.Statement.TheVariants.{Quit}
 use Rattle.pld_script.specs.declared.scan.Scan.{Scan}
 use Rattle.pld_script.proofs.Scanning.{Scanned-append, Scanned-new}
 use Rattle.pld_script.specs.Statements.{Placed, statements, statements_at, MayFollow, HoldsNone, Scanned}
-use Rattle.pld_driver.specs.Walk.{Step, Says, Runs, Walked, said, after, walk, session, is_quit, has_quit}
+use Rattle.pld_driver.specs.Walk.{Step, Says, Runs, Walked, passed, said, after, walk, session, transcript, is_quit, has_quit}
 use Rattle.pld_driver.specs.Moments.{Took, Broke, Held, Point, Goes, Cuts, Breaks, Comes, AnswersAll, QuitsAt, Reaches, Ends, IsReady, is_open, done_status, status_of}
-use Rattle.pld_driver.specs.Outcome.{Outcome, Tells, IsExact, IsTooLong, IsRead, WroteAll, WritesPart, WritesFront}
-use Rattle.pld_driver.specs.Reading.{Takes, limit}
+use Rattle.pld_driver.specs.Outcome.{Moment, moment_of, Outcome, StatusSays, IsTaken, IsExact, IsReadThrough, Begins, AreFirst, IsCutShort, IsBrokenOff, WroteAll, WritesPart, WritesFront}
+use Rattle.pld_driver.specs.Reading.{Takes, limit, IsEnded}
 use Rattle.pld_driver.specs.declared.engine.Bench.{Bench}
 use Rattle.pld_driver.specs.declared.session.Piece.TheVariants as piece
 use Rattle.pld_driver.specs.declared.answers.Place.{Place}
@@ -21,11 +20,12 @@ use Rattle.pld_driver.specs.declared.answers.Flow.TheVariants as flow
 use Rattle.pld_driver.specs.declared.answers.Stop.TheVariants as stop
 use Rattle.pld_driver.specs.declared.status.Status.{Status}
 use Rattle.pld_driver.specs.declared.status.Status.TheVariants.{Fine, SomeRefused, Usage, ReadFault, WriteFault, NoMemory, TooLong}
-use Rattle.pld_driver.proofs.Walks.{join, walk-append, walk_bare, Bare, or_none, pick, no_quit, has_quit-append, Goes-trans}
+use Rattle.pld_driver.proofs.Puts.{Accepts-trans, Accepts-until, Gives-nil, Gives-trans, Gives-until}
+use Rattle.pld_driver.proofs.Walks.{join, walk-append, walk_bare, Bare, or_none, pick, no_quit, has_quit-append, Goes-trans, one_step, one_quit}
 
 -- the moment before the first byte
-abbrev pub first_point : {S R : Type 0} → S → Bench R → Option (List ℕ) → Point S R
-first_point state bench written = record { held = record { state = state; bench = bench; written = written }; number = 1; start = 0; refused = false }
+abbrev pub first_point : {S R : Type 0} → S → Bench R → SinkState → Point S R
+first_point state bench sink = record { held = record { state = state; bench = bench; sink = sink }; number = 1; start = 0; refused = false }
 
 -- Nothing was spent, and nothing has run.
 pub record IsNew {R : Type 0} (bench : Bench R) : Type 0 where
@@ -35,7 +35,7 @@ pub record IsNew {R : Type 0} (bench : Bench R) : Type 0 where
 -- ---- a session whose first statements were answered
 
 -- what is left of the session behind them
-session_is : {S R : Type 0} (step : S → Placed → Step S R) (Fits : S → R → Type 0) (ended : Bool) (text : List ℕ) (s : S) (b : Bench R) (w : Option (List ℕ)) (at : Point S R)
+session_is : {S R : Type 0} (step : S → Placed → Step S R) (Fits : S → R → Type 0) (ended : Bool) (text : List ℕ) (s : S) (b : Bench R) (w : SinkState) (at : Point S R)
     (goes : Goes step Fits ended text (first_point s b w) at) (e : Bool) (bytes : List ℕ) (later : List Placed) (extra new : List R)
     → statements e bytes ≡ goes.done ++ later → new ≡ goes.added ++ extra
     → session step s bytes e new ≡ join (walk step s goes.done goes.added) (walk step at.held.state later extra)
@@ -43,7 +43,7 @@ session_is step Fits ended text s b w at goes e bytes later extra new p q =
     ap (λ l. walk step s l new) p ∙ ap (λ r. walk step s (goes.done ++ later) r) q
     ∙ walk-append step s at.held.state goes.done later goes.added extra goes.left goes.end
 
-records_of : {S R : Type 0} (step : S → Placed → Step S R) (Fits : S → R → Type 0) (ended : Bool) (text : List ℕ) (s : S) (b : Bench R) (w : Option (List ℕ)) (at : Point S R)
+records_of : {S R : Type 0} (step : S → Placed → Step S R) (Fits : S → R → Type 0) (ended : Bool) (text : List ℕ) (s : S) (b : Bench R) (w : SinkState) (at : Point S R)
     (goes : Goes step Fits ended text (first_point s b w) at) → IsNew b → at.held.bench.records.items ≡ goes.added ++ []
 records_of step Fits ended text s b w at goes none = goes.records ∙ ap (λ l. l ++ goes.added) none.records ∙ sym (append-nil goes.added)
 
@@ -61,28 +61,29 @@ bare_fits : {S R : Type 0} (Fits : S → R → Type 0) (v : Walked S R) → Bare
 bare_fits {S} {R} Fits v b = let P : List (S × R) → Type 0 = λ l. All (λ run. Fits run.0 run.1) l in subst P (sym b.runs) (All-nil _)
 
 -- All statements were answered, up to a `quit` or to the last; `quits` says which.
-record Whole {S R : Type 0} (Fits : S → R → Type 0) (old new : Option (List ℕ)) (permits : ℕ) (all : Walked S R) (found quits refused : Bool) : Type 0 where
-  settled : Settled Fits all
-  wrote : WroteAll old new permits all
+record Whole {S R : Type 0} (Fits : S → R → Type 0) (before after : Moment R) (all : Walked S R) (found quits refused : Bool) : Type 0 where
+  fit : All (λ run. Fits run.0 run.1) all.runs
+  wrote : WroteAll before after all
   quit : found ≡ quits
   flag : all.refused ≡ refused
 
-all_answered : {S R : Type 0} (step : S → Placed → Step S R) (Fits : S → R → Type 0) (ended : Bool) (text : List ℕ) (s : S) (b : Bench R) (w : Option (List ℕ)) (at : Point S R)
-    (goes : Goes step Fits ended text (first_point s b w) at) → IsNew b → HoldsNone ended (drop at.start text)
-    → Whole Fits w at.held.written at.held.bench.permits (session step s text ended at.held.bench.records.items) (has_quit (statements ended text)) false at.refused
-all_answered {S} {R} step Fits ended text s b w at goes none rest =
+all_answered : {S R : Type 0} (step : S → Placed → Step S R) (Fits : S → R → Type 0) (ended : Bool) (text : List ℕ) (s : S) (b : Bench R) (w : SinkState) (at : Point S R)
+    (goes : Goes step Fits ended text (first_point s b w) at) → IsNew b → HoldsNone ended (drop at.start text) → (lo ln : SourceState)
+    → Whole Fits (moment_of lo w b) (moment_of ln at.held.sink at.held.bench) (session step s text ended at.held.bench.records.items) (has_quit (statements ended text)) false at.refused
+all_answered {S} {R} step Fits ended text s b w at goes none rest lo ln =
     let m : MayFollow ended ended [] = record { end = λ q. q; none = λ q. refl } in
     let behind : statements_at ended at.number (drop at.start text ++ []) ≡ [] = ap (statements_at ended at.number) (append-nil (drop at.start text)) ∙ rest at.number in
     let all : statements ended text ≡ goes.done ++ [] = ap (statements ended) (sym (append-nil text)) ∙ goes.cut ended [] m ∙ ap (λ l. goes.done ++ l) behind in
     let d = walk step s goes.done goes.added in
     let e : session step s text ended at.held.bench.records.items ≡ join d (walk step at.held.state [] []) =
     session_is step Fits ended text s b w at goes ended text [] [] at.held.bench.records.items all (records_of step Fits ended text s b w at goes none) in
-    let P : Walked S R → Type 0 = λ x. Appends w at.held.written x.out in
-    let Q : List ℕ → Type 0 = λ x. Appends w at.held.written x in
+    let P : Walked S R → Type 0 = λ x. Accepts w at.held.sink x.out in
+    let Q : List ℕ → Type 0 = λ x. Accepts w at.held.sink x in
     let permits : (session step s text ended at.held.bench.records.items).permits ≡ d.permits + 0 = ap (λ x. x.permits) e in
+    let settled = settle Fits (session step s text ended at.held.bench.records.items) d (walk step at.held.state [] []) e goes.fit (All-nil _) refl in
     record {
-      settled = settle Fits (session step s text ended at.held.bench.records.items) d (walk step at.held.state [] []) e goes.fit (All-nil _) refl;
-      wrote = record { out = subst P (sym e) (subst Q (sym (append-nil d.out)) goes.put); whole = ap (λ x. x.whole) e; permits = omega (arith, goes.permits, none.permits, permits) };
+      fit = settled.fit;
+      wrote = record { out = subst P (sym e) (subst Q (sym (append-nil d.out)) goes.put); whole = ap (λ x. x.whole) e; none_left = settled.used; permits = omega (arith, goes.permits, none.permits, permits) };
       quit = ap has_quit all ∙ has_quit-append goes.done [] ∙ or_none (has_quit goes.done) ∙ no_quit step s at.held.state goes.done goes.added goes.end;
       flag = ap (λ x. x.refused) e ∙ or_none d.refused ∙ sym goes.refused;
     }
@@ -92,10 +93,10 @@ or_true true = refl
 or_true false = refl
 
 -- a `quit` comes next, whatever follows
-quit_comes : {S R : Type 0} (step : S → Placed → Step S R) (Fits : S → R → Type 0) (ended : Bool) (text : List ℕ) (s : S) (b : Bench R) (w : Option (List ℕ)) (at : Point S R)
-    → QuitsAt step Fits ended text (first_point s b w) at → IsNew b → (e : Bool) (more bytes : List ℕ) → MayFollow ended e more → bytes ≡ text ++ more
-    → Whole Fits w at.held.written at.held.bench.permits (session step s bytes e at.held.bench.records.items) (has_quit (statements e bytes)) true at.refused
-quit_comes {S} {R} step Fits ended text s b w at quits none e more bytes m is =
+quit_comes : {S R : Type 0} (step : S → Placed → Step S R) (Fits : S → R → Type 0) (ended : Bool) (text : List ℕ) (s : S) (b : Bench R) (w : SinkState) (at : Point S R)
+    → QuitsAt step Fits ended text (first_point s b w) at → IsNew b → (lo ln : SourceState) (e : Bool) (more bytes : List ℕ) → MayFollow ended e more → bytes ≡ text ++ more
+    → Whole Fits (moment_of lo w b) (moment_of ln at.held.sink at.held.bench) (session step s bytes e at.held.bench.records.items) (has_quit (statements e bytes)) true at.refused
+quit_comes {S} {R} step Fits ended text s b w at quits none lo ln e more bytes m is =
     let goes = quits.goes in
     let c = quits.comes e more m in
     let quit : Placed = record { number = quits.number; said = Some Quit } in
@@ -104,12 +105,13 @@ quit_comes {S} {R} step Fits ended text s b w at quits none e more bytes m is =
     let v = walk step at.held.state (quit ∷ c.0) [] in
     let j : session step s bytes e at.held.bench.records.items ≡ join d v =
     session_is step Fits ended text s b w at goes e bytes (quit ∷ c.0) [] at.held.bench.records.items all (records_of step Fits ended text s b w at goes none) in
-    let P : Walked S R → Type 0 = λ x. Appends w at.held.written x.out in
-    let Q : List ℕ → Type 0 = λ x. Appends w at.held.written x in
+    let P : Walked S R → Type 0 = λ x. Accepts w at.held.sink x.out in
+    let Q : List ℕ → Type 0 = λ x. Accepts w at.held.sink x in
     let permits : (session step s bytes e at.held.bench.records.items).permits ≡ d.permits + 0 = ap (λ x. x.permits) j in
+    let settled = settle Fits (session step s bytes e at.held.bench.records.items) d v j goes.fit (All-nil _) refl in
     record {
-      settled = settle Fits (session step s bytes e at.held.bench.records.items) d v j goes.fit (All-nil _) refl;
-      wrote = record { out = subst P (sym j) (subst Q (sym (append-nil d.out)) goes.put); whole = ap (λ x. x.whole) j; permits = omega (arith, goes.permits, none.permits, permits) };
+      fit = settled.fit;
+      wrote = record { out = subst P (sym j) (subst Q (sym (append-nil d.out)) goes.put); whole = ap (λ x. x.whole) j; none_left = settled.used; permits = omega (arith, goes.permits, none.permits, permits) };
       quit = ap has_quit all ∙ has_quit-append goes.done (quit ∷ c.0) ∙ or_true (has_quit goes.done);
       flag = ap (λ x. x.refused) j ∙ or_none d.refused ∙ sym goes.refused;
     }
@@ -191,20 +193,21 @@ broke_stop (Runs answer) Fits s old new f bare (inr (run, l, few)) =
     }
 
 -- What was written is a front of what the session writes, and no more permits were spent.
-record Front {S R : Type 0} (Fits : S → R → Type 0) (old new : Option (List ℕ)) (missing : List ℕ) (permits : ℕ) (all : Walked S R) : Type 0 where
+-- `Put` tells what was put.
+record Front {S R : Type 0} (Fits : S → R → Type 0) (Put : List ℕ → Type 0) (missing : List ℕ) (permits : ℕ) (all : Walked S R) : Type 0 where
   settled : Settled Fits all
   begin : List ℕ
   rest : List ℕ
   out : all.out ≡ begin ++ (missing ++ rest)
-  put : Appends old new begin
+  put : Put begin
   few : permits ≤ all.permits
 
-front_of : {S R : Type 0} (step : S → Placed → Step S R) (Fits : S → R → Type 0) (ended : Bool) (text : List ℕ) (s : S) (b new : Bench R) (w written : Option (List ℕ)) (at : Point S R)
+front_of : {S R : Type 0} (step : S → Placed → Step S R) (Fits : S → R → Type 0) (ended : Bool) (text : List ℕ) (s : S) (b new : Bench R) (w : SinkState) (Put : List ℕ → Type 0) (at : Point S R)
     (goes : Goes step Fits ended text (first_point s b w) at) → IsNew b → (placed : Placed) (part missing : List ℕ) → Comes ended text at placed → is_quit placed.said ≡ false
     → ((later : List Placed) → StopsAt Fits at.held.bench new (λ extra. after (step at.held.state placed) at.held.state extra (λ n r. walk step n later r)) (part ++ missing))
-    → Appends at.held.written written part → (e : Bool) (more bytes : List ℕ) → MayFollow ended e more → bytes ≡ text ++ more
-    → Front Fits w written missing new.permits (session step s bytes e new.records.items)
-front_of {S} {R} step Fits ended text s b new w written at goes none placed part missing comes quit stops put e more bytes m is =
+    → Put ((walk step s goes.done goes.added).out ++ part) → (e : Bool) (more bytes : List ℕ) → MayFollow ended e more → bytes ≡ text ++ more
+    → Front Fits Put missing new.permits (session step s bytes e new.records.items)
+front_of {S} {R} step Fits ended text s b new w Put at goes none placed part missing comes quit stops put e more bytes m is =
     let c = comes e more m in
     let all : statements e bytes ≡ goes.done ++ (placed ∷ c.0) = ap (statements e) is ∙ goes.cut e more m ∙ ap (λ l. goes.done ++ l) c.1 in
     let t : StopsAt Fits at.held.bench new (λ extra. walk step at.held.state (placed ∷ c.0) extra) (part ++ missing) =
@@ -219,32 +222,32 @@ front_of {S} {R} step Fits ended text s b new w written at goes none placed part
       begin = d.out ++ part;
       rest = t.rest;
       out = ap (λ x. x.out) j ∙ ap (λ l. d.out ++ l) (t.out ∙ append_assoc part missing t.rest) ∙ sym (append_assoc d.out part (missing ++ t.rest));
-      put = Appends-trans w at.held.written written d.out part goes.put put;
+      put = put;
       few = omega (arith, permits, t.few, goes.permits, none.permits);
     }
 
-cut_front : {S R : Type 0} (step : S → Placed → Step S R) (Fits : S → R → Type 0) (ended : Bool) (text : List ℕ) (s : S) (b : Bench R) (w : Option (List ℕ)) (at : Point S R) (to : Held S R)
+cut_front : {S R : Type 0} (step : S → Placed → Step S R) (Fits : S → R → Type 0) (ended : Bool) (text : List ℕ) (s : S) (b : Bench R) (w : SinkState) (at : Point S R) (to : Held S R)
     (goes : Goes step Fits ended text (first_point s b w) at) → IsNew b → (placed : Placed) → Comes ended text at placed → is_quit placed.said ≡ false
     → (cuts : Cuts step Fits placed at.held to) → (e : Bool) (more bytes : List ℕ) → MayFollow ended e more → bytes ≡ text ++ more
-    → Front Fits w to.written cuts.missing to.bench.permits (session step s bytes e to.bench.records.items)
+    → Front Fits (AcceptsUntilFault w to.sink) cuts.missing to.bench.permits (session step s bytes e to.bench.records.items)
 cut_front {S} {R} step Fits ended text s b w at to goes none placed comes quit cuts e more bytes m is =
-    front_of step Fits ended text s b to.bench w to.written at goes none placed cuts.part cuts.missing comes quit
+    front_of step Fits ended text s b to.bench w (AcceptsUntilFault w to.sink) at goes none placed cuts.part cuts.missing comes quit
     (λ later. took_stop (step at.held.state placed) Fits at.held.state at.held.bench to.bench (cuts.part ++ cuts.missing) cuts.refused to.state (λ n r. walk step n later r) (λ n. walk_bare step n later) cuts.took)
-    cuts.put e more bytes m is
+    (Accepts-until w at.held.sink to.sink (walk step s goes.done goes.added).out cuts.part goes.put cuts.put) e more bytes m is
 
-break_front : {S R : Type 0} (step : S → Placed → Step S R) (Fits : S → R → Type 0) (ended : Bool) (text : List ℕ) (s : S) (b : Bench R) (w : Option (List ℕ)) (at : Point S R) (to : Held S R)
+break_front : {S R : Type 0} (step : S → Placed → Step S R) (Fits : S → R → Type 0) (ended : Bool) (text : List ℕ) (s : S) (b : Bench R) (w : SinkState) (at : Point S R) (to : Held S R)
     (goes : Goes step Fits ended text (first_point s b w) at) → IsNew b → (placed : Placed) → Comes ended text at placed → is_quit placed.said ≡ false
     → Breaks step Fits placed at.held to → (e : Bool) (more bytes : List ℕ) → MayFollow ended e more → bytes ≡ text ++ more
-    → Front Fits w to.written [] to.bench.permits (session step s bytes e to.bench.records.items)
+    → Front Fits (Accepts w to.sink) [] to.bench.permits (session step s bytes e to.bench.records.items)
 break_front {S} {R} step Fits ended text s b w at to goes none placed comes quit breaks e more bytes m is =
-    front_of step Fits ended text s b to.bench w to.written at goes none placed [] [] comes quit
+    front_of step Fits ended text s b to.bench w (Accepts w to.sink) at goes none placed [] [] comes quit
     (λ later. broke_stop (step at.held.state placed) Fits at.held.state at.held.bench to.bench (λ n r. walk step n later r) (λ n. walk_bare step n later) breaks.broke)
-    (Appends-kept at.held.written at.held.written to.written [] (Appends-nil at.held.written) breaks.put) e more bytes m is
+    (Accepts-trans w at.held.sink to.sink (walk step s goes.done goes.added).out [] goes.put breaks.put) e more bytes m is
 
 -- where no statement was begun, too
-same_front : {S R : Type 0} (step : S → Placed → Step S R) (Fits : S → R → Type 0) (ended : Bool) (text : List ℕ) (s : S) (b : Bench R) (w : Option (List ℕ)) (at : Point S R)
+same_front : {S R : Type 0} (step : S → Placed → Step S R) (Fits : S → R → Type 0) (ended : Bool) (text : List ℕ) (s : S) (b : Bench R) (w : SinkState) (at : Point S R)
     (goes : Goes step Fits ended text (first_point s b w) at) → IsNew b → (e : Bool) (more bytes : List ℕ) → MayFollow ended e more → bytes ≡ text ++ more
-    → Front Fits w at.held.written [] at.held.bench.permits (session step s bytes e at.held.bench.records.items)
+    → Front Fits (Accepts w at.held.sink) [] at.held.bench.permits (session step s bytes e at.held.bench.records.items)
 same_front step Fits ended text s b w at goes none e more bytes m is =
     let later = statements_at e at.number (drop at.start text ++ more) in
     let d = walk step s goes.done goes.added in
@@ -346,19 +349,19 @@ Ends-after step Fits ended text from mid to (flow.Stopped stop.WriteFault) goes 
 Ends-after step Fits ended text from mid to (flow.Stopped stop.NoMemory) goes (inl e) = inl (Goes-trans step Fits ended text from mid to goes e)
 Ends-after step Fits ended text from mid to (flow.Stopped stop.NoMemory) goes (inr e) = inr (reaches_after step Fits ended text from mid (λ placed held. Breaks step Fits placed held to.held) goes e)
 
--- ---- the outcomes
+-- ---- how far a session came that stopped
 
-part_of : {S R : Type 0} (Fits : S → R → Type 0) (w written : Option (List ℕ)) (missing : List ℕ) (permits : ℕ) (all : Walked S R) → Front Fits w written missing permits all → 0 < length missing → WritesPart w written all.out
-part_of Fits w written missing permits all f some = (f.begin, missing ++ f.rest, f.out, omega (arith, some, length-append {A = ℕ}), f.put)
+-- what a text begins with
+begins : {S R : Type 0} (step : S → Placed → Step S R) (Fits : S → R → Type 0) (ended : Bool) (text : List ℕ) (s : S) (b : Bench R) (w : SinkState) (at : Point S R)
+    (goes : Goes step Fits ended text (first_point s b w) at) (begun : List Placed)
+    → ((e : Bool) (more : List ℕ) → MayFollow ended e more → Begins begun (statements_at e at.number (drop at.start text ++ more)))
+    → (e : Bool) (more bytes : List ℕ) → MayFollow ended e more → bytes ≡ text ++ more → Begins (goes.done ++ begun) (statements e bytes)
+begins step Fits ended text s b w at goes begun comes e more bytes m is =
+    let c = comes e more m in
+    (c.0, ap (statements e) is ∙ goes.cut e more m ∙ ap (λ l. goes.done ++ l) c.1 ∙ sym (append_assoc goes.done begun c.0))
 
-front_in : {S R : Type 0} (Fits : S → R → Type 0) (w written : Option (List ℕ)) (missing : List ℕ) (permits : ℕ) (all : Walked S R) → Front Fits w written missing permits all → WritesFront w written all.out
-front_in Fits w written missing permits all f = (f.begin, missing ++ f.rest, f.out, f.put)
-
-tells_done : {S R : Type 0} (step : S → Placed → Step S R) (s : S) (left old new : Option (List ℕ)) (taken : List ℕ) (permits : ℕ) (records : List R) (flag : Bool)
-    → IsRead left taken → WroteAll old new permits (session step s taken true records) → (session step s taken true records).refused ≡ flag
-    → Tells step s left old new taken permits records (done_status flag)
-tells_done step s left old new taken permits records true read wrote e = (read, wrote, e)
-tells_done step s left old new taken permits records false read wrote e = (read, wrote, e)
+none_begun : {S R : Type 0} (ended : Bool) (text : List ℕ) (at : Point S R) (e : Bool) (more : List ℕ) → MayFollow ended e more → Begins [] (statements_at e at.number (drop at.start text ++ more))
+none_begun ended text at e more m = (statements_at e at.number (drop at.start text ++ more), refl)
 
 parts : (text : List ℕ) → text ≡ take limit text ++ drop limit text
 parts text = sym (take-append-drop limit text)
@@ -369,9 +372,142 @@ alone text = sym (append-nil text)
 at_end : MayFollow true true []
 at_end = record { end = λ q. q; none = λ q. refl }
 
+not_both : {A : Type 0} (b : Bool) → b ≡ true → b ≡ false → A
+not_both true p q = cc
+not_both false p q = cc
+
+open_first : (source : SourceState) (text : List ℕ) (these : List Placed) → ((e : Bool) (more bytes : List ℕ) → MayFollow false e more → bytes ≡ take limit text ++ more → Begins these (statements e bytes))
+    → AreFirst source text these
+open_first source text these h = record {
+  read = h true (drop limit text) text (may_follow true (drop limit text)) (parts text);
+  whole = λ _. h false [] (take limit text) (may_follow false []) (alone (take limit text));
+}
+
+last_first : (source : SourceState) (text : List ℕ) (these : List Placed) → IsEnded source → ((e : Bool) (more bytes : List ℕ) → MayFollow true e more → bytes ≡ text ++ more → Begins these (statements e bytes))
+    → AreFirst source text these
+last_first source text these end h = record { read = h true [] text at_end (alone text); whole = λ n. not_both source.ended end.said n }
+
+-- the first statements with the records of all: those of the others are left
+walk_part : {S R : Type 0} (step : S → Placed → Step S R) (s s' : S) (done : List Placed) (added extra : List R) → (walk step s done added).left ≡ [] → (walk step s done added).end ≡ Some s'
+    → walk step s done (added ++ extra) ≡ join (walk step s done added) (passed s' extra)
+walk_part step s s' done added extra l e = ap (λ x. walk step s x (added ++ extra)) (sym (append-nil done)) ∙ walk-append step s s' done [] added extra l e
+
+some_end : {S : Type 0} (x : Option S) (y : S) → x ≡ Some y → IsSome x
+some_end x y e = let P : Option _ → Type 0 = λ o. IsSome o in subst P (sym e) refl
+
+cut_short : {S R : Type 0} (step : S → Placed → Step S R) (Fits : S → R → Type 0) (ended : Bool) (text : List ℕ) (s : S) (b : Bench R) (w : SinkState) (at : Point S R) (to : Held S R)
+    (goes : Goes step Fits ended text (first_point s b w) at) → IsNew b → (placed : Placed) → is_quit placed.said ≡ false → Cuts step Fits placed at.held to
+    → (lo ln : SourceState) (taken : List ℕ) → AreFirst ln taken (goes.done ++ placed ∷ []) → IsCutShort step s (moment_of lo w b) (moment_of ln to.sink to.bench) taken
+cut_short {S} {R} step Fits ended text s b w at to goes none placed quit cuts lo ln taken first =
+    let reply = cuts.part ++ cuts.missing in
+    let one = one_quit (is_quit placed.said) Fits at.held.bench.records.items to.bench.records.items at.held.bench.permits to.bench.permits reply cuts.refused to.state
+    (λ added. after (step at.held.state placed) at.held.state added passed) quit
+    (one_step (step at.held.state placed) Fits at.held.state at.held.bench to.bench reply cuts.refused to.state cuts.took) in
+    let d = walk step s goes.done goes.added in
+    let v = walk step at.held.state (placed ∷ []) one.added in
+    let records : to.bench.records.items ≡ goes.added ++ one.added = one.grown ∙ ap (λ l. l ++ one.added) (goes.records ∙ ap (λ l. l ++ goes.added) none.records) in
+    let both : walk step s (goes.done ++ placed ∷ []) to.bench.records.items ≡ join d v =
+    ap (walk step s (goes.done ++ placed ∷ [])) records ∙ walk-append step s at.held.state goes.done (placed ∷ []) goes.added one.added goes.left goes.end in
+    let before : (walk step s goes.done to.bench.records.items).out ≡ d.out =
+    ap (λ r. (walk step s goes.done r).out) records ∙ ap (λ x. x.out) (walk_part step s at.held.state goes.done goes.added one.added goes.left goes.end) ∙ append-nil d.out in
+    let spent : to.bench.permits ≡ at.held.bench.permits + v.permits = one.permits in
+    let permits : (walk step s (goes.done ++ placed ∷ []) to.bench.records.items).permits ≡ d.permits + v.permits = ap (λ x. x.permits) both in
+    let P : List ℕ → Type 0 = λ l. AcceptsUntilFault w to.sink (l ++ cuts.part) in
+    record {
+      done = goes.done;
+      last = placed;
+      first = first;
+      answered = some_end _ to.state (ap (λ x. x.end) both ∙ one.end);
+      none_left = ap (λ x. x.left) both ∙ one.left;
+      permits = omega (arith, spent, permits, goes.permits, none.permits);
+      part = cuts.part;
+      missing = cuts.missing;
+      some = cuts.some;
+      out = ap (λ x. x.out) both ∙ ap (λ l. d.out ++ l) one.out ∙ ap (λ l. l ++ reply) (sym before);
+      put = subst P (sym before) (Accepts-until w at.held.sink to.sink d.out cuts.part goes.put cuts.put);
+    }
+
+broke_least : {S R : Type 0} (x : Step S R) (Fits : R → Type 0) (old new : Bench R) → Broke x Fits old new → old.permits ≤ new.permits
+broke_least (Says told) Fits old new (n, few) = few.0
+broke_least (Runs answer) Fits old new (inl (n, same)) = omega (arith, same)
+broke_least (Runs answer) Fits old new (inr (run, l, few)) = few.0
+
+broken_off : {S R : Type 0} (step : S → Placed → Step S R) (Fits : S → R → Type 0) (ended : Bool) (text : List ℕ) (s : S) (b : Bench R) (w : SinkState) (at : Point S R) (to : Held S R)
+    (goes : Goes step Fits ended text (first_point s b w) at) → IsNew b → (placed : Placed) → is_quit placed.said ≡ false → Breaks step Fits placed at.held to
+    → (lo ln : SourceState) (taken : List ℕ) → AreFirst ln taken (goes.done ++ placed ∷ []) → IsBrokenOff step s (moment_of lo w b) (moment_of ln to.sink to.bench) taken
+broken_off {S} {R} step Fits ended text s b w at to goes none placed quit breaks lo ln taken first =
+    let t : StopsAt Fits at.held.bench to.bench (λ extra. walk step at.held.state (placed ∷ []) extra) [] =
+    stop_quit (is_quit placed.said) Fits at.held.bench to.bench (λ extra. after (step at.held.state placed) at.held.state extra (λ n r. walk step n [] r)) [] quit
+    (broke_stop (step at.held.state placed) Fits at.held.state at.held.bench to.bench (λ n r. walk step n [] r) (λ n. walk_bare step n []) breaks.broke) in
+    let d = walk step s goes.done goes.added in
+    let v = walk step at.held.state (placed ∷ []) t.extra in
+    let records : to.bench.records.items ≡ goes.added ++ t.extra = t.grown ∙ ap (λ l. l ++ t.extra) (goes.records ∙ ap (λ l. l ++ goes.added) none.records) in
+    let both : walk step s (goes.done ++ placed ∷ []) to.bench.records.items ≡ join d v =
+    ap (walk step s (goes.done ++ placed ∷ [])) records ∙ walk-append step s at.held.state goes.done (placed ∷ []) goes.added t.extra goes.left goes.end in
+    let front : walk step s goes.done to.bench.records.items ≡ join d (passed at.held.state t.extra) =
+    ap (walk step s goes.done) records ∙ walk_part step s at.held.state goes.done goes.added t.extra goes.left goes.end in
+    let permits : (walk step s (goes.done ++ placed ∷ []) to.bench.records.items).permits ≡ d.permits + v.permits = ap (λ x. x.permits) both in
+    let fewer : (walk step s goes.done to.bench.records.items).permits ≡ d.permits + 0 = ap (λ x. x.permits) front in
+    let few : to.bench.permits ≤ at.held.bench.permits + v.permits = t.few in
+    let least : at.held.bench.permits ≤ to.bench.permits = broke_least (step at.held.state placed) (Fits at.held.state) at.held.bench to.bench breaks.broke in
+    let P : List ℕ → Type 0 = λ l. Accepts w to.sink l in
+    record {
+      done = goes.done;
+      begun = placed ∷ [];
+      one = omega arith;
+      first = first;
+      answered = some_end _ at.held.state (ap (λ x. x.end) front);
+      put = subst P (sym (ap (λ x. x.out) front)) (Accepts-trans w at.held.sink to.sink d.out [] goes.put breaks.put);
+      none_left = ap (λ x. x.left) both ∙ t.left;
+      least = omega (arith, least, fewer, goes.permits, none.permits);
+      most = omega (arith, few, permits, goes.permits, none.permits);
+    }
+
+-- where no statement was begun
+broken_between : {S R : Type 0} (step : S → Placed → Step S R) (Fits : S → R → Type 0) (ended : Bool) (text : List ℕ) (s : S) (b : Bench R) (w : SinkState) (at : Point S R)
+    (goes : Goes step Fits ended text (first_point s b w) at) → IsNew b
+    → (lo ln : SourceState) (taken : List ℕ) → AreFirst ln taken (goes.done ++ []) → IsBrokenOff step s (moment_of lo w b) (moment_of ln at.held.sink at.held.bench) taken
+broken_between {S} {R} step Fits ended text s b w at goes none lo ln taken first =
+    let d = walk step s goes.done goes.added in
+    let front : walk step s goes.done at.held.bench.records.items ≡ d = ap (walk step s goes.done) (records_of step Fits ended text s b w at goes none ∙ append-nil goes.added) in
+    let both : walk step s (goes.done ++ []) at.held.bench.records.items ≡ d = ap (λ l. walk step s l at.held.bench.records.items) (append-nil goes.done) ∙ front in
+    let permits : (walk step s (goes.done ++ []) at.held.bench.records.items).permits ≡ d.permits = ap (λ x. x.permits) both in
+    let fewer : (walk step s goes.done at.held.bench.records.items).permits ≡ d.permits = ap (λ x. x.permits) front in
+    let P : List ℕ → Type 0 = λ l. Accepts w at.held.sink l in
+    record {
+      done = goes.done;
+      begun = [];
+      one = omega arith;
+      first = first;
+      answered = some_end _ at.held.state (ap (λ x. x.end) front ∙ goes.end);
+      put = subst P (sym (ap (λ x. x.out) front)) goes.put;
+      none_left = ap (λ x. x.left) both ∙ goes.left;
+      least = omega (arith, fewer, goes.permits, none.permits);
+      most = omega (arith, permits, goes.permits, none.permits);
+    }
+
+-- ---- the outcomes
+
+part_of : {S R : Type 0} (Fits : S → R → Type 0) (w written : SinkState) (missing : List ℕ) (permits : ℕ) (all : Walked S R) → Front Fits (AcceptsUntilFault w written) missing permits all → 0 < length missing → WritesPart w written all.out
+part_of Fits w written missing permits all f some = (f.begin, missing ++ f.rest, f.out, omega (arith, some, length-append {A = ℕ}), f.put)
+
+front_in : {S R : Type 0} (Fits : S → R → Type 0) (w written : SinkState) (missing : List ℕ) (permits : ℕ) (all : Walked S R) → Front Fits (Accepts w written) missing permits all → WritesFront w written all.out
+front_in Fits w written missing permits all f = (f.begin, missing ++ f.rest, f.out, f.put)
+
+-- no take failed
+taken_done : (lo ln : SourceState) (taken : List ℕ) (flag : Bool) → Gives lo ln taken → IsTaken lo ln taken (done_status flag)
+taken_done lo ln taken true took = took
+taken_done lo ln taken false took = took
+
+tells_done : {S R : Type 0} (step : S → Placed → Step S R) (s : S) (before after : Moment R) (taken : List ℕ) (flag : Bool)
+    → IsReadThrough after.source taken → WroteAll before after (session step s taken true after.bench.records.items) → (session step s taken true after.bench.records.items).refused ≡ flag
+    → StatusSays step s before after taken (done_status flag)
+tells_done step s before after taken true read wrote e = (read, wrote, e)
+tells_done step s before after taken false read wrote e = (read, wrote, e)
+
 -- where no memory was left, and no statement was begun
-pub open_memory : {S R : Type 0} (step : S → Placed → Step S R) (Fits : S → R → Type 0) (s : S) (b : Bench R) (lo ln w : Option (List ℕ)) (text : List ℕ) (to : Point S R) → IsNew b → Consumes lo ln text
-    → Goes step Fits false (take limit text) (first_point s b w) to → Outcome step Fits s lo ln w to.held.written to.held.bench.permits to.held.bench.records.items NoMemory
+pub open_memory : {S R : Type 0} (step : S → Placed → Step S R) (Fits : S → R → Type 0) (s : S) (b : Bench R) (lo ln : SourceState) (w : SinkState) (text : List ℕ) (to : Point S R) → IsNew b → Gives lo ln text
+    → Goes step Fits false (take limit text) (first_point s b w) to → Outcome step Fits s (moment_of lo w b) (moment_of ln to.held.sink to.held.bench) NoMemory
 open_memory step Fits s b lo ln w text to none took goes =
     let f = λ (e : Bool). same_front step Fits false (take limit text) s b w to goes none e (drop limit text) text (may_follow e (drop limit text)) (parts text) in
     let all = λ (e : Bool). session step s text e to.held.bench.records.items in
@@ -379,29 +515,27 @@ open_memory step Fits s b lo ln w text to none took goes =
       taken = text;
       took = took;
       fit = (f true).settled.fit;
-      used = (f true).settled.used;
       told = (
-        (f true).few,
-        front_in Fits w to.held.written [] to.held.bench.permits (all true) (f true),
-        (λ _. front_in Fits w to.held.written [] to.held.bench.permits (all false) (f false)),
+        broken_between step Fits false (take limit text) s b w to goes none lo ln text (open_first ln text _ (begins step Fits false (take limit text) s b w to goes [] (none_begun false (take limit text) to))),
+        front_in Fits w to.held.sink [] to.held.bench.permits (all true) (f true),
+        (λ _. front_in Fits w to.held.sink [] to.held.bench.permits (all false) (f false)),
       );
     }
 
 -- in the midst of the text
-pub open_outcome : {S R : Type 0} (step : S → Placed → Step S R) (Fits : S → R → Type 0) (s : S) (b : Bench R) (lo ln w : Option (List ℕ)) (text : List ℕ) (to : Point S R) (f : Flow) → IsNew b → Consumes lo ln text
+pub open_outcome : {S R : Type 0} (step : S → Placed → Step S R) (Fits : S → R → Type 0) (s : S) (b : Bench R) (lo ln : SourceState) (w : SinkState) (text : List ℕ) (to : Point S R) (f : Flow) → IsNew b → Gives lo ln text
     → Ends step Fits false (take limit text) (first_point s b w) to f → is_open f ≡ false
-    → Outcome step Fits s lo ln w to.held.written to.held.bench.permits to.held.bench.records.items (status_of f to.refused)
+    → Outcome step Fits s (moment_of lo w b) (moment_of ln to.held.sink to.held.bench) (status_of f to.refused)
 open_outcome step Fits s b lo ln w text to flow.Open none took ends shut = cc
 open_outcome step Fits s b lo ln w text to flow.Quits none took ends shut =
     let front = take limit text in
-    let q = quit_comes step Fits false front s b w to ends none true (drop limit text) text (may_follow true (drop limit text)) (parts text) in
-    let h = quit_comes step Fits false front s b w to ends none false [] front (may_follow false []) (alone front) in
+    let q = quit_comes step Fits false front s b w to ends none lo ln true (drop limit text) text (may_follow true (drop limit text)) (parts text) in
+    let h = quit_comes step Fits false front s b w to ends none lo ln false [] front (may_follow false []) (alone front) in
     record {
       taken = text;
-      took = took;
-      fit = q.settled.fit;
-      used = q.settled.used;
-      told = tells_done step s ln w to.held.written text to.held.bench.permits to.held.bench.records.items to.refused (inr h.quit) q.wrote q.flag;
+      took = taken_done lo ln text to.refused took;
+      fit = q.fit;
+      told = tells_done step s (moment_of lo w b) (moment_of ln to.held.sink to.held.bench) text to.refused (inr h.quit) q.wrote q.flag;
     }
 open_outcome step Fits s b lo ln w text to (flow.Stopped stop.WriteFault) none took r shut =
     let f = λ (e : Bool). cut_front step Fits false (take limit text) s b w r.at to.held r.goes none r.placed r.comes r.no_quit r.holds e (drop limit text) text (may_follow e (drop limit text)) (parts text) in
@@ -411,12 +545,12 @@ open_outcome step Fits s b lo ln w text to (flow.Stopped stop.WriteFault) none t
       taken = text;
       took = took;
       fit = (f true).settled.fit;
-      used = (f true).settled.used;
       told = (
-        (f true).few,
-        part_of Fits w to.held.written r.holds.missing to.held.bench.permits (all true) (f true) r.holds.some,
-        (λ _. part_of Fits w to.held.written r.holds.missing to.held.bench.permits (all false) (f false) r.holds.some),
-        (λ _. part_of Fits w to.held.written r.holds.missing to.held.bench.permits (session step s (take limit text) false to.held.bench.records.items) k r.holds.some),
+        cut_short step Fits false (take limit text) s b w r.at to.held r.goes none r.placed r.no_quit r.holds lo ln text
+            (open_first ln text _ (begins step Fits false (take limit text) s b w r.at r.goes (r.placed ∷ []) r.comes)),
+        part_of Fits w to.held.sink r.holds.missing to.held.bench.permits (all true) (f true) r.holds.some,
+        (λ _. part_of Fits w to.held.sink r.holds.missing to.held.bench.permits (all false) (f false) r.holds.some),
+        (λ _. part_of Fits w to.held.sink r.holds.missing to.held.bench.permits (session step s (take limit text) false to.held.bench.records.items) k r.holds.some),
       );
     }
 open_outcome step Fits s b lo ln w text to (flow.Stopped stop.NoMemory) none took (inl goes) shut = open_memory step Fits s b lo ln w text to none took goes
@@ -427,52 +561,50 @@ open_outcome step Fits s b lo ln w text to (flow.Stopped stop.NoMemory) none too
       taken = text;
       took = took;
       fit = (f true).settled.fit;
-      used = (f true).settled.used;
       told = (
-        (f true).few,
-        front_in Fits w to.held.written [] to.held.bench.permits (all true) (f true),
-        (λ _. front_in Fits w to.held.written [] to.held.bench.permits (all false) (f false)),
+        broken_off step Fits false (take limit text) s b w r.at to.held r.goes none r.placed r.no_quit r.holds lo ln text
+            (open_first ln text _ (begins step Fits false (take limit text) s b w r.at r.goes (r.placed ∷ []) r.comes)),
+        front_in Fits w to.held.sink [] to.held.bench.permits (all true) (f true),
+        (λ _. front_in Fits w to.held.sink [] to.held.bench.permits (all false) (f false)),
       );
     }
 
 -- where the source failed, or the text is too long: all whole statements before were answered
 
-pub read_fault : {S R : Type 0} (step : S → Placed → Step S R) (Fits : S → R → Type 0) (s : S) (b : Bench R) (lo ln w : Option (List ℕ)) (text : List ℕ) (at : Point S R) → IsNew b → Consumes lo ln text → length text ≤ limit
-    → AnswersAll step Fits false (take limit text) (first_point s b w) at → Outcome step Fits s lo ln w at.held.written at.held.bench.permits at.held.bench.records.items ReadFault
-read_fault {S} {R} step Fits s b lo ln w text at none took h all =
-    let a = all_answered step Fits false (take limit text) s b w at all.goes none all.none in
+pub read_fault : {S R : Type 0} (step : S → Placed → Step S R) (Fits : S → R → Type 0) (s : S) (b : Bench R) (lo ln : SourceState) (w : SinkState) (text : List ℕ) (at : Point S R) → IsNew b → GivesUntilFault lo ln text → ln.ended ≡ false
+    → length text ≤ limit → AnswersAll step Fits false (take limit text) (first_point s b w) at → Outcome step Fits s (moment_of lo w b) (moment_of ln at.held.sink at.held.bench) ReadFault
+read_fault {S} {R} step Fits s b lo ln w text at none took on h all =
+    let a = all_answered step Fits false (take limit text) s b w at all.goes none all.none lo ln in
     let t = same_front step Fits false (take limit text) s b w at all.goes none true (drop limit text) text (may_follow true (drop limit text)) (parts text) in
-    let P : List ℕ → Type 0 = λ l. (has_quit (statements false l) ≡ false) × WroteAll w at.held.written at.held.bench.permits (session step s l false at.held.bench.records.items) in
-    record { taken = text; took = took; fit = t.settled.fit; used = t.settled.used; told = let q = subst P (take_all limit text h) (a.quit, a.wrote) in (h, q.0, q.1) }
+    let P : List ℕ → Type 0 = λ l. (has_quit (statements false l) ≡ false) × WroteAll (moment_of lo w b) (moment_of ln at.held.sink at.held.bench) (session step s l false at.held.bench.records.items) in
+    record { taken = text; took = took; fit = t.settled.fit; told = let q = subst P (take_all limit text h) (a.quit, a.wrote) in (h, on, q.0, q.1) }
 
-pub too_long : {S R : Type 0} (step : S → Placed → Step S R) (Fits : S → R → Type 0) (s : S) (b : Bench R) (lo ln w : Option (List ℕ)) (text : List ℕ) (at : Point S R) → IsNew b → Consumes lo ln text → limit < length text
-    → AnswersAll step Fits false (take limit text) (first_point s b w) at → Outcome step Fits s lo ln w at.held.written at.held.bench.permits at.held.bench.records.items TooLong
+pub too_long : {S R : Type 0} (step : S → Placed → Step S R) (Fits : S → R → Type 0) (s : S) (b : Bench R) (lo ln : SourceState) (w : SinkState) (text : List ℕ) (at : Point S R) → IsNew b → Gives lo ln text → limit < length text
+    → AnswersAll step Fits false (take limit text) (first_point s b w) at → Outcome step Fits s (moment_of lo w b) (moment_of ln at.held.sink at.held.bench) TooLong
 too_long step Fits s b lo ln w text at none took h all =
-    let a = all_answered step Fits false (take limit text) s b w at all.goes none all.none in
+    let a = all_answered step Fits false (take limit text) s b w at all.goes none all.none lo ln in
     let t = same_front step Fits false (take limit text) s b w at all.goes none true (drop limit text) text (may_follow true (drop limit text)) (parts text) in
-    record { taken = text; took = took; fit = t.settled.fit; used = t.settled.used; told = (h, a.quit, a.wrote) }
+    record { taken = text; took = took; fit = t.settled.fit; told = (h, a.quit, a.wrote) }
 
 -- at the end of the text
-pub last_outcome : {S R : Type 0} (step : S → Placed → Step S R) (Fits : S → R → Type 0) (s : S) (b : Bench R) (lo ln w : Option (List ℕ)) (text : List ℕ) (to : Point S R) (f : Flow) → IsNew b → Consumes lo ln text → IsAtEnd ln
+pub last_outcome : {S R : Type 0} (step : S → Placed → Step S R) (Fits : S → R → Type 0) (s : S) (b : Bench R) (lo ln : SourceState) (w : SinkState) (text : List ℕ) (to : Point S R) (f : Flow) → IsNew b → Gives lo ln text → IsEnded ln
     → length text ≤ limit → Ends step Fits true text (first_point s b w) to f
-    → Outcome step Fits s lo ln w to.held.written to.held.bench.permits to.held.bench.records.items (status_of f to.refused)
+    → Outcome step Fits s (moment_of lo w b) (moment_of ln to.held.sink to.held.bench) (status_of f to.refused)
 last_outcome step Fits s b lo ln w text to flow.Open none took end h all =
-    let a = all_answered step Fits true text s b w to all.goes none all.none in
+    let a = all_answered step Fits true text s b w to all.goes none all.none lo ln in
     record {
       taken = text;
-      took = took;
-      fit = a.settled.fit;
-      used = a.settled.used;
-      told = tells_done step s ln w to.held.written text to.held.bench.permits to.held.bench.records.items to.refused (inl (end, h)) a.wrote a.flag;
+      took = taken_done lo ln text to.refused took;
+      fit = a.fit;
+      told = tells_done step s (moment_of lo w b) (moment_of ln to.held.sink to.held.bench) text to.refused (inl (end, h)) a.wrote a.flag;
     }
 last_outcome step Fits s b lo ln w text to flow.Quits none took end h quits =
-    let q = quit_comes step Fits true text s b w to quits none true [] text at_end (alone text) in
+    let q = quit_comes step Fits true text s b w to quits none lo ln true [] text at_end (alone text) in
     record {
       taken = text;
-      took = took;
-      fit = q.settled.fit;
-      used = q.settled.used;
-      told = tells_done step s ln w to.held.written text to.held.bench.permits to.held.bench.records.items to.refused (inl (end, h)) q.wrote q.flag;
+      took = taken_done lo ln text to.refused took;
+      fit = q.fit;
+      told = tells_done step s (moment_of lo w b) (moment_of ln to.held.sink to.held.bench) text to.refused (inl (end, h)) q.wrote q.flag;
     }
 last_outcome step Fits s b lo ln w text to (flow.Stopped stop.WriteFault) none took end h r =
     let f = cut_front step Fits true text s b w r.at to.held r.goes none r.placed r.comes r.no_quit r.holds true [] text at_end (alone text) in
@@ -480,11 +612,11 @@ last_outcome step Fits s b lo ln w text to (flow.Stopped stop.WriteFault) none t
       taken = text;
       took = took;
       fit = f.settled.fit;
-      used = f.settled.used;
       told = (
-        f.few,
-        part_of Fits w to.held.written r.holds.missing to.held.bench.permits (session step s text true to.held.bench.records.items) f r.holds.some,
-        (λ n. absurd (n end)),
+        cut_short step Fits true text s b w r.at to.held r.goes none r.placed r.no_quit r.holds lo ln text
+            (last_first ln text _ end (begins step Fits true text s b w r.at r.goes (r.placed ∷ []) r.comes)),
+        part_of Fits w to.held.sink r.holds.missing to.held.bench.permits (session step s text true to.held.bench.records.items) f r.holds.some,
+        (λ n. not_both ln.ended end.said n),
         (λ k. absurd (omega arith)),
       );
     }
@@ -494,8 +626,11 @@ last_outcome step Fits s b lo ln w text to (flow.Stopped stop.NoMemory) none too
       taken = text;
       took = took;
       fit = f.settled.fit;
-      used = f.settled.used;
-      told = (f.few, front_in Fits w to.held.written [] to.held.bench.permits (session step s text true to.held.bench.records.items) f, (λ n. absurd (n end)));
+      told = (
+        broken_between step Fits true text s b w to goes none lo ln text (last_first ln text _ end (begins step Fits true text s b w to goes [] (none_begun true text to))),
+        front_in Fits w to.held.sink [] to.held.bench.permits (session step s text true to.held.bench.records.items) f,
+        (λ n. not_both ln.ended end.said n),
+      );
     }
 last_outcome step Fits s b lo ln w text to (flow.Stopped stop.NoMemory) none took end h (inr r) =
     let f = break_front step Fits true text s b w r.at to.held r.goes none r.placed r.comes r.no_quit r.holds true [] text at_end (alone text) in
@@ -503,44 +638,33 @@ last_outcome step Fits s b lo ln w text to (flow.Stopped stop.NoMemory) none too
       taken = text;
       took = took;
       fit = f.settled.fit;
-      used = f.settled.used;
-      told = (f.few, front_in Fits w to.held.written [] to.held.bench.permits (session step s text true to.held.bench.records.items) f, (λ n. absurd (n end)));
+      told = (
+        broken_off step Fits true text s b w r.at to.held r.goes none r.placed r.no_quit r.holds lo ln text
+            (last_first ln text _ end (begins step Fits true text s b w r.at r.goes (r.placed ∷ []) r.comes)),
+        front_in Fits w to.held.sink [] to.held.bench.permits (session step s text true to.held.bench.records.items) f,
+        (λ n. not_both ln.ended end.said n),
+      );
     }
-
--- a fault of the sink is told only where it stopped the answers
-pub fault_told : (f : Flow) (refused : Bool) → status_of f refused ≡ WriteFault → f ≡ flow.Stopped stop.WriteFault
-fault_told flow.Open true e = cc
-fault_told flow.Open false e = cc
-fault_told flow.Quits true e = cc
-fault_told flow.Quits false e = cc
-fault_told (flow.Stopped stop.WriteFault) refused e = refl
-fault_told (flow.Stopped stop.NoMemory) refused e = cc
-
--- and none of the source there
-pub no_read_fault : (f : Flow) (refused : Bool) → status_of f refused ≡ ReadFault → ⊥
-no_read_fault flow.Open true e = cc
-no_read_fault flow.Open false e = cc
-no_read_fault flow.Quits true e = cc
-no_read_fault flow.Quits false e = cc
-no_read_fault (flow.Stopped stop.WriteFault) refused e = cc
-no_read_fault (flow.Stopped stop.NoMemory) refused e = cc
 
 -- ---- the loop over the pieces
 
-pub open_took : (lo mid ln : Option (List ℕ)) (most : ℕ) (old new : List ℕ) → Consumes lo mid old → Takes mid ln most old new piece.Some → Consumes lo ln new
-open_took lo mid ln most old new a (bytes', e, some, within, b) = let P : List ℕ → Type 0 = λ l. Consumes lo ln l in subst P (sym e) (Consumes-trans lo mid ln old bytes' a b)
+pub open_took : (lo mid ln : SourceState) (most : ℕ) (old new : List ℕ) → Gives lo mid old → Takes mid ln most old new piece.Some → Gives lo ln new
+open_took lo mid ln most old new a (bytes', e, some, within, b, on) = let P : List ℕ → Type 0 = λ l. Gives lo ln l in subst P (sym e) (Gives-trans lo mid ln old bytes' a b)
 
-pub same_took : (lo mid ln : Option (List ℕ)) (text : List ℕ) → Consumes lo mid text → Consumes mid ln [] → Consumes lo ln text
-same_took lo mid ln text a b = let P : List ℕ → Type 0 = λ l. Consumes lo ln l in subst P (append-nil text) (Consumes-trans lo mid ln text [] a b)
+pub fault_took : (lo mid ln : SourceState) (text : List ℕ) → Gives lo mid text → GivesUntilFault mid ln [] → GivesUntilFault lo ln text
+fault_took lo mid ln text a b = let P : List ℕ → Type 0 = λ l. GivesUntilFault lo ln l in subst P (append-nil text) (Gives-until lo mid ln text [] a b)
 
-pub open_ends : {S R : Type 0} (step : S → Placed → Step S R) (Fits : S → R → Type 0) (lo ln : Option (List ℕ)) (most : ℕ) (old new bytes : List ℕ) (from mid to : Point S R) (f : Flow) → most ≡ limit → length old ≤ most
+pub same_took : (lo mid ln : SourceState) (text : List ℕ) → Gives lo mid text → Gives mid ln [] → Gives lo ln text
+same_took lo mid ln text a b = let P : List ℕ → Type 0 = λ l. Gives lo ln l in subst P (append-nil text) (Gives-trans lo mid ln text [] a b)
+
+pub open_ends : {S R : Type 0} (step : S → Placed → Step S R) (Fits : S → R → Type 0) (lo ln : SourceState) (most : ℕ) (old new bytes : List ℕ) (from mid to : Point S R) (f : Flow) → most ≡ limit → length old ≤ most
     → Takes lo ln most old new piece.Some → bytes ≡ take limit new → Goes step Fits false (take limit old) from mid → Ends step Fits false bytes mid to f → Ends step Fits false (take limit new) from to f
-open_ends {S} {R} step Fits lo ln most old new bytes from mid to f m h (bytes', e, some, within, took) b goes ends =
+open_ends {S} {R} step Fits lo ln most old new bytes from mid to f m h (bytes', e, some, within, took, on) b goes ends =
     let P : List ℕ → Type 0 = λ l. Ends step Fits false l mid to f in
     let h' : length old ≤ limit = rw (← m) h in
     Ends-after step Fits false (take limit new) from mid to f (Goes-grown step Fits limit old new bytes' from mid h' e goes) (subst P b ends)
 
-pub open_all : {S R : Type 0} (step : S → Placed → Step S R) (Fits : S → R → Type 0) (lo ln : Option (List ℕ)) (most : ℕ) (old new bytes : List ℕ) (from mid to : Point S R) (f : Flow) → most ≡ limit → length old ≤ most
+pub open_all : {S R : Type 0} (step : S → Placed → Step S R) (Fits : S → R → Type 0) (lo ln : SourceState) (most : ℕ) (old new bytes : List ℕ) (from mid to : Point S R) (f : Flow) → most ≡ limit → length old ≤ most
     → Takes lo ln most old new piece.Some → bytes ≡ take limit new → Goes step Fits false (take limit old) from mid → Ends step Fits false bytes mid to f → f ≡ flow.Open → AnswersAll step Fits false (take limit new) from to
 open_all {S} {R} step Fits lo ln most old new bytes from mid to f m h takes b goes ends is =
     let Q : Flow → Type 0 = λ x. Ends step Fits false (take limit new) from to x in
@@ -551,9 +675,9 @@ is_open_flow flow.Open e = refl
 is_open_flow flow.Quits e = cc
 is_open_flow (flow.Stopped reason) e = cc
 
-pub open_ready : (lo ln : Option (List ℕ)) (most : ℕ) (old new bytes : List ℕ) (place : Place) (permits : ℕ) → most ≡ limit → length old ≤ most → Takes lo ln most old new piece.Some → bytes ≡ take limit new
+pub open_ready : (lo ln : SourceState) (most : ℕ) (old new bytes : List ℕ) (place : Place) (permits : ℕ) → most ≡ limit → length old ≤ most → Takes lo ln most old new piece.Some → bytes ≡ take limit new
     → IsReady (take limit old) place permits → IsReady bytes place permits
-open_ready lo ln most old new bytes place permits m h (bytes', e, some, within, took) b r =
+open_ready lo ln most old new bytes place permits m h (bytes', e, some, within, took, on) b r =
     let P : List ℕ → Type 0 = λ l. IsReady l place permits in
     let h' : length old ≤ limit = rw (← m) h in
     subst P (sym b) (IsReady-grown limit old new bytes' place permits h' e r)
@@ -575,8 +699,8 @@ limit_small most e = rw e (lit< tt)
 no_text : (text : List ℕ) → text ≡ [] → take limit text ≡ []
 no_text text e = take_all limit text (omega (arith, ap length e)) ∙ e
 
-pub init_took : (lo : Option (List ℕ)) (text : List ℕ) → text ≡ [] → Consumes lo lo text
-init_took lo text e = let P : List ℕ → Type 0 = λ l. Consumes lo lo l in subst P (sym e) (Consumes-nil lo)
+pub init_took : (lo : SourceState) (text : List ℕ) → text ≡ [] → Gives lo lo text
+init_took lo text e = let P : List ℕ → Type 0 = λ l. Gives lo lo l in subst P (sym e) (Gives-nil lo)
 
 pub init_none : (text : List ℕ) → text ≡ [] → HoldsNone false (drop 0 (take limit text))
 init_none text e number = ap (λ l. statements_at false number (drop 0 l)) (no_text text e)
@@ -606,53 +730,53 @@ text_small bytes text e h = let most : limit < 2 ^ 40 = limit_small limit refl i
 
 -- ---- exactly where
 
-no_part : (old new : Option (List ℕ)) (whole : List ℕ) → IsSome old → Appends old new whole → WritesPart old new whole → ⊥
-no_part None new whole t a p = cc
-no_part (Some x) None whole t a p = absurd a
-no_part (Some x) (Some y) whole t a (front, rest, e, some, q) =
-    omega (arith, ap length a, ap length q, ap length e, length-append x whole, length-append x front, length-append front rest, some)
+no_part : (old new : SinkState) (whole : List ℕ) → new.put ≡ old.put ++ whole → WritesPart old new whole → ⊥
+no_part old new whole a (front, rest, e, some, q) =
+    omega (arith, ap length a, ap length q.put, ap length e, length-append old.put whole, length-append old.put front, length-append front rest, some)
 
-not_both : {A : Type 0} (b : Bool) → b ≡ true → b ≡ false → A
-not_both true p q = cc
-not_both false p q = cc
+-- the text was read, and the source failed
+no_fault : {A : Type 0} (source : SourceState) (taken : List ℕ) → IsReadThrough source taken → length taken ≤ limit → source.ended ≡ false → has_quit (statements false taken) ≡ false → A
+no_fault source taken (inl (end, h)) few on none = not_both source.ended end.said on
+no_fault source taken (inr q) few on none = not_both (has_quit (statements false taken)) (sym (ap (λ l. has_quit (statements false l)) (take_all limit taken few)) ∙ q) none
 
-pub exact_of : {S R : Type 0} (step : S → Placed → Step S R) (s : S) (left old new : Option (List ℕ)) (taken : List ℕ) (permits : ℕ) (records : List R) (result : Status)
-    → Tells step s left old new taken permits records result → IsSome old → (result ≡ ReadFault → ⊥) → IsExact step s left old new taken permits records result
-exact_of {S} {R} step s left old new taken permits records result told t fault = record {
-  fine = λ read wrote flag. fine result told fault read wrote flag;
-  some_refused = λ read wrote flag. refused result told fault read wrote flag;
+-- the text was read, and is too long
+not_long : {A : Type 0} (source : SourceState) (taken : List ℕ) → IsReadThrough source taken → limit < length taken → has_quit (statements false (take limit taken)) ≡ false → A
+not_long source taken (inl (end, h)) more none = absurd (omega (arith, more, h))
+not_long source taken (inr q) more none = not_both (has_quit (statements false (take limit taken))) q none
+
+pub exact_of : {S R : Type 0} (step : S → Placed → Step S R) (s : S) (before after : Moment R) (taken : List ℕ) (result : Status) → StatusSays step s before after taken result → IsExact step s before after taken result
+exact_of {S} {R} step s before after taken result told = record {
+  fine = λ read wrote flag. fine result told read wrote flag;
+  some_refused = λ read wrote flag. refused result told read wrote flag;
+  too_long = λ more none wrote. long result told more none wrote;
 }
   where
-    fine : (r : Status) → Tells step s left old new taken permits records r → (r ≡ ReadFault → ⊥) → IsRead left taken → WroteAll old new permits (session step s taken true records)
-        → (session step s taken true records).refused ≡ false → (r ≡ Fine) ⊎ (r ≡ NoMemory)
-    fine Fine told fault read wrote flag = inl refl
-    fine SomeRefused told fault read wrote flag = not_both (session step s taken true records).refused told.2 flag
-    fine Usage told fault read wrote flag = absurd told
-    fine ReadFault told fault read wrote flag = absurd (fault refl)
-    fine WriteFault told fault read wrote flag = absurd (no_part old new (session step s taken true records).out t wrote.out told.1)
-    fine NoMemory told fault read wrote flag = inr refl
-    fine TooLong told fault (inl (end, h)) wrote flag = absurd (omega (arith, told.0, h))
-    fine TooLong told fault (inr q) wrote flag = not_both (has_quit (statements false (take limit taken))) q told.1
+    fine : (r : Status) → StatusSays step s before after taken r → IsReadThrough after.source taken → after.sink.put ≡ before.sink.put ++ transcript step s taken true after.bench.records.items
+        → (session step s taken true after.bench.records.items).refused ≡ false → (r ≡ Fine) ⊎ (r ≡ NoMemory)
+    fine Fine told read wrote flag = inl refl
+    fine SomeRefused told read wrote flag = not_both (session step s taken true after.bench.records.items).refused told.2 flag
+    fine Usage told read wrote flag = absurd told
+    fine ReadFault told read wrote flag = no_fault after.source taken read told.0 told.1 told.2
+    fine WriteFault told read wrote flag = absurd (no_part before.sink after.sink (transcript step s taken true after.bench.records.items) wrote told.1)
+    fine NoMemory told read wrote flag = inr refl
+    fine TooLong told read wrote flag = not_long after.source taken read told.0 told.1
 
-    refused : (r : Status) → Tells step s left old new taken permits records r → (r ≡ ReadFault → ⊥) → IsRead left taken → WroteAll old new permits (session step s taken true records)
-        → (session step s taken true records).refused ≡ true → (r ≡ SomeRefused) ⊎ (r ≡ NoMemory)
-    refused Fine told fault read wrote flag = not_both (session step s taken true records).refused flag told.2
-    refused SomeRefused told fault read wrote flag = inl refl
-    refused Usage told fault read wrote flag = absurd told
-    refused ReadFault told fault read wrote flag = absurd (fault refl)
-    refused WriteFault told fault read wrote flag = absurd (no_part old new (session step s taken true records).out t wrote.out told.1)
-    refused NoMemory told fault read wrote flag = inr refl
-    refused TooLong told fault (inl (end, h)) wrote flag = absurd (omega (arith, told.0, h))
-    refused TooLong told fault (inr q) wrote flag = not_both (has_quit (statements false (take limit taken))) q told.1
+    refused : (r : Status) → StatusSays step s before after taken r → IsReadThrough after.source taken → after.sink.put ≡ before.sink.put ++ transcript step s taken true after.bench.records.items
+        → (session step s taken true after.bench.records.items).refused ≡ true → (r ≡ SomeRefused) ⊎ (r ≡ NoMemory)
+    refused Fine told read wrote flag = not_both (session step s taken true after.bench.records.items).refused flag told.2
+    refused SomeRefused told read wrote flag = inl refl
+    refused Usage told read wrote flag = absurd told
+    refused ReadFault told read wrote flag = no_fault after.source taken read told.0 told.1 told.2
+    refused WriteFault told read wrote flag = absurd (no_part before.sink after.sink (transcript step s taken true after.bench.records.items) wrote told.1)
+    refused NoMemory told read wrote flag = inr refl
+    refused TooLong told read wrote flag = not_long after.source taken read told.0 told.1
 
-pub long_of : {S R : Type 0} (step : S → Placed → Step S R) (s : S) (left old new : Option (List ℕ)) (taken : List ℕ) (permits : ℕ) (records : List R) (result : Status)
-    → Tells step s left old new taken permits records result → IsSome old → IsTooLong step s old new taken permits records result
-long_of step s left old new taken permits records Fine (inl (end, k), b, d) t h none wrote = absurd (omega (arith, h, k))
-long_of step s left old new taken permits records Fine (inr q, b, d) t h none wrote = not_both (has_quit (statements false (take limit taken))) q none
-long_of step s left old new taken permits records SomeRefused (inl (end, k), b, d) t h none wrote = absurd (omega (arith, h, k))
-long_of step s left old new taken permits records SomeRefused (inr q, b, d) t h none wrote = not_both (has_quit (statements false (take limit taken))) q none
-long_of step s left old new taken permits records Usage told t h none wrote = absurd told
-long_of step s left old new taken permits records ReadFault told t h none wrote = absurd (omega (arith, told.0, h))
-long_of step s left old new taken permits records WriteFault told t h none wrote = absurd (no_part old new (session step s (take limit taken) false records).out t wrote.out (told.3 h))
-long_of step s left old new taken permits records NoMemory told t h none wrote = inr refl
-long_of step s left old new taken permits records TooLong told t h none wrote = inl refl
+    long : (r : Status) → StatusSays step s before after taken r → limit < length taken → has_quit (statements false (take limit taken)) ≡ false
+        → after.sink.put ≡ before.sink.put ++ transcript step s (take limit taken) false after.bench.records.items → (r ≡ TooLong) ⊎ (r ≡ NoMemory)
+    long Fine told more none wrote = not_long after.source taken told.0 more none
+    long SomeRefused told more none wrote = not_long after.source taken told.0 more none
+    long Usage told more none wrote = absurd told
+    long ReadFault told more none wrote = absurd (omega (arith, told.0, more))
+    long WriteFault told more none wrote = absurd (no_part before.sink after.sink (transcript step s (take limit taken) false after.bench.records.items) wrote (told.3 more))
+    long NoMemory told more none wrote = inr refl
+    long TooLong told more none wrote = inl refl

@@ -1,9 +1,10 @@
 -- How what a session makes of its statements is put together.
-use Rattle.std.proofs.Common.{◌≡◌, ℕ, ◌+◌, ◌-◌, ◌<◌, ◌≤◌, Bool, true, false, ◌||◌, List, [], ◌∷◌, ◌++◌, length, take, drop, Option, Some, None, All, refl, sym, ap, ◌∙◌, append_assoc, append-nil, subst, arith, inr, add_assoc, zero-add, add-zero}
+use Rattle.std.proofs.Common.{◌≡◌, ℕ, ◌+◌, ◌-◌, ◌≤◌, Bool, true, false, ◌||◌, List, [], ◌∷◌, ◌++◌, length, take, drop, Option, Some, None, All, refl, sym, ap, ◌∙◌, append_assoc, append-nil, subst, arith, inl, inr, add_assoc, zero-add, add-zero}
 use Rattle.std.proofs.lemmas.List.Elements.{All-append, All-cons, All-nil}
-use Rattle.std.proofs.lemmas.List.{drop-drop, length-drop, length-take, take_all, drop_all, take-append-drop, drop-append-le}
-use Rattle.std.specs.Io.KnownBytes.{Appends}
-use Rattle.std.proofs.KnownBytes.{Appends-trans, Appends-nil}
+use Rattle.std.proofs.lemmas.List.{drop-drop, length-drop, length-take, take_all, drop_all, take-append-drop, take-append-le, drop-append-le}
+use Rattle.pld_io.specs.Outside.{Accepts}
+use Rattle.pld_script.specs.Lines.{lines}
+use Rattle.pld_driver.proofs.Puts.{Accepts-trans, Accepts-nil}
 use Rattle.pld_script.specs.declared.statement.Statement.{Statement}
 use Rattle.pld_script.specs.declared.statement.Statement.TheVariants as says
 use Rattle.pld_script.specs.declared.scan.Scan.{Scan}
@@ -18,7 +19,7 @@ use Rattle.pld_driver.specs.declared.answers.Stop.{Stop}
 use Rattle.pld_driver.specs.declared.answers.Stop.TheVariants.{WriteFault, NoMemory}
 use Rattle.pld_driver.specs.declared.engine.Bench.{Bench}
 use Rattle.pld_driver.specs.Walk.{Answered, Step, Says, Runs, Walked, passed, stopped, said, ran, after, walk, is_quit, has_quit}
-use Rattle.pld_driver.specs.Moments.{Took, Held, Point, Goes, Answers, Cuts, Comes, Stops, Ends, IsGiven, given_of, IsReady}
+use Rattle.pld_driver.specs.Moments.{Took, Point, Goes, Answers, Comes, Stops, Ends, IsGiven, given_of, IsReady}
 
 -- one session's statements, and then those of another
 abbrev pub join : {S R : Type 0} → Walked S R → Walked S R → Walked S R
@@ -119,16 +120,6 @@ pub has_quit-append : (a b : List Placed) → has_quit (a ++ b) ≡ (has_quit a 
 has_quit-append [] b = refl
 has_quit-append (placed ∷ a) b = ap (λ x. is_quit placed.said || x) (has_quit-append a b) ∙ or_assoc (is_quit placed.said) (has_quit a) (has_quit b)
 
--- ---- one statement
-
-pub cuts_of : {S R : Type 0} (step : S → Placed → Step S R) (Fits : S → R → Type 0) (placed : Placed) (from to : Held S R) (reply : List ℕ) (refused : Bool)
-    → Took (step from.state placed) (Fits from.state) from.bench to.bench reply refused to.state
-    → (part : List ℕ) × (missing : List ℕ) × (reply ≡ part ++ missing) × (0 < length missing) × Appends from.written to.written part
-    → Cuts step Fits placed from to
-cuts_of step Fits placed from to reply refused took (part, missing, whole, some, put) =
-    let P : List ℕ → Type 0 = λ l. Took (step from.state placed) (Fits from.state) from.bench to.bench l refused to.state in
-    record { part = part; missing = missing; refused = refused; some = some; took = subst P whole took; put = put }
-
 -- ---- from one moment to another
 
 pub Goes-refl : {S R : Type 0} (step : S → Placed → Step S R) (Fits : S → R → Type 0) (ended : Bool) (text : List ℕ) (at : Point S R) → at.start ≤ length text → Goes step Fits ended text at at
@@ -144,7 +135,7 @@ Goes-refl step Fits ended text at h = record {
   left = refl;
   end = refl;
   fit = All-nil _;
-  put = Appends-nil at.held.written;
+  put = Accepts-nil at.held.sink;
   refused = sym (or_none at.refused);
 }
 
@@ -156,7 +147,7 @@ Goes-trans {S} {R} step Fits ended text from mid to a b =
     let e : walk step from.held.state (a.done ++ b.done) (a.added ++ b.added) ≡ join w v = walk-append step from.held.state mid.held.state a.done b.done a.added b.added a.left a.end in
     let F : S × R → Type 0 = λ run. Fits run.0 run.1 in
     let P : Walked S R → Type 0 = λ x. All F x.runs in
-    let Q : Walked S R → Type 0 = λ x. Appends from.held.written to.held.written x.out in
+    let Q : Walked S R → Type 0 = λ x. Accepts from.held.sink to.held.sink x.out in
     record {
       done = a.done ++ b.done;
       added = a.added ++ b.added;
@@ -169,22 +160,22 @@ Goes-trans {S} {R} step Fits ended text from mid to a b =
       left = ap (λ x. x.left) e ∙ b.left;
       end = ap (λ x. x.end) e ∙ b.end;
       fit = subst P (sym e) (All-append F w.runs v.runs a.fit b.fit);
-      put = subst Q (sym e) (Appends-trans from.held.written mid.held.written to.held.written w.out v.out a.put b.put);
+      put = subst Q (sym e) (Accepts-trans from.held.sink mid.held.sink to.held.sink w.out v.out a.put b.put);
       refused = b.refused ∙ ap (λ x. x || v.refused) a.refused ∙ sym (or_assoc from.refused w.refused v.refused) ∙ ap (λ x. from.refused || x.refused) (sym e);
     }
 
 -- What a session of one statement is: with the record that it has left it leads to the next state.
-record IsOne {S R : Type 0} (Fits : S → R → Type 0) (old new : List R) (spent_old spent_new : ℕ) (reply : List ℕ) (refused : Bool) (next : S) (behind : List R → Walked S R) : Type 0 where
-  added : List R
-  grown : new ≡ old ++ added
-  permits : spent_new ≡ spent_old + (behind added).permits
-  left : (behind added).left ≡ []
-  end : (behind added).end ≡ Some next
-  fit : All (λ run. Fits run.0 run.1) (behind added).runs
-  out : (behind added).out ≡ reply
-  flag : (behind added).refused ≡ refused
+pub record IsOne {S R : Type 0} (Fits : S → R → Type 0) (old new : List R) (spent_old spent_new : ℕ) (reply : List ℕ) (refused : Bool) (next : S) (behind : List R → Walked S R) : Type 0 where
+  pub added : List R
+  pub grown : new ≡ old ++ added
+  pub permits : spent_new ≡ spent_old + (behind added).permits
+  pub left : (behind added).left ≡ []
+  pub end : (behind added).end ≡ Some next
+  pub fit : All (λ run. Fits run.0 run.1) (behind added).runs
+  pub out : (behind added).out ≡ reply
+  pub flag : (behind added).refused ≡ refused
 
-one_step : {S R : Type 0} (x : Step S R) (Fits : S → R → Type 0) (state : S) (old new : Bench R) (reply : List ℕ) (refused : Bool) (next : S) → Took x (Fits state) old new reply refused next
+pub one_step : {S R : Type 0} (x : Step S R) (Fits : S → R → Type 0) (state : S) (old new : Bench R) (reply : List ℕ) (refused : Bool) (next : S) → Took x (Fits state) old new reply refused next
     → IsOne Fits old.records.items new.records.items old.permits new.permits reply refused next (λ added. after x state added passed)
 one_step (Says told) Fits state old new reply refused next (g, n) = record {
   added = [];
@@ -207,7 +198,7 @@ one_step (Runs answer) Fits state old new reply refused next (run, l, g) = recor
   flag = or_none (answer run).refused ∙ sym g.flag;
 }
 
-one_quit : {S R : Type 0} (b : Bool) (Fits : S → R → Type 0) (old new : List R) (spent_old spent_new : ℕ) (reply : List ℕ) (refused : Bool) (next : S) (f : List R → Walked S R) → b ≡ false
+pub one_quit : {S R : Type 0} (b : Bool) (Fits : S → R → Type 0) (old new : List R) (spent_old spent_new : ℕ) (reply : List ℕ) (refused : Bool) (next : S) (f : List R → Walked S R) → b ≡ false
     → IsOne Fits old new spent_old spent_new reply refused next f → IsOne Fits old new spent_old spent_new reply refused next (λ added. pick b added (f added))
 one_quit true Fits old new spent_old spent_new reply refused next f e h = cc
 one_quit false Fits old new spent_old spent_new reply refused next f e h = h
@@ -222,7 +213,7 @@ Goes-one {S} {R} step Fits ended text from to told blank own used flag first h q
     let one = one_quit (is_quit told) Fits from.held.bench.records.items to.held.bench.records.items from.held.bench.permits to.held.bench.permits a.reply flag to.held.state
     (λ added. after (step from.held.state placed) from.held.state added passed) quit
     (one_step (step from.held.state placed) Fits from.held.state from.held.bench to.held.bench a.reply flag to.held.state a.took) in
-    let P : List ℕ → Type 0 = λ l. Appends from.held.written to.held.written l in
+    let P : List ℕ → Type 0 = λ l. Accepts from.held.sink to.held.sink l in
     record {
       done = placed ∷ [];
       added = one.added;
@@ -250,12 +241,26 @@ comes_first ended text at told blank own used first e more m = (_, first.first a
 pub HoldsNone-nil : (ended : Bool) (text : List ℕ) (start : ℕ) → length text ≤ start → HoldsNone ended (drop start text)
 HoldsNone-nil ended text start h number = ap (statements_at ended number) (drop_all start text h)
 
+-- a front of a front
+front_of : (rest : List ℕ) (end n : ℕ) → n ≤ length (take end rest) → take n (take end rest) ≡ take n rest
+front_of rest end n h = sym (take-append-le n (take end rest) (drop end rest) h) ∙ ap (take n) (take-append-drop end rest)
+
+not_ended : false ≡ true → ⊥
+not_ended e = cc
+
 -- the first statement of a front is that of the whole
 IsFirst-take : (rest : List ℕ) (end : ℕ) (told : Option Statement) (blank own used : ℕ) → IsFirst false (take end rest) told blank own used → IsFirst false rest told blank own used
 IsFirst-take rest end told blank own used f = record {
   within = omega (arith, f.within, length-take {A = ℕ});
   some = f.some;
   counts = f.counts;
+  own_lines = f.own_lines ∙ ap (λ l. length (lines true l)) (front_of rest end used f.within);
+  least = λ n p. let P : List ℕ → Type 0 = λ l. HoldsNone false l in subst P (front_of rest end n (omega (arith, f.within))) (f.least n p);
+  whole =
+      elim f.whole [
+        | inl one ↦ let P : List ℕ → Type 0 = λ l. HoldsOne l in inl (subst P (front_of rest end used f.within) one)
+        | inr t ↦ absurd (not_ended t.0)
+      ];
   first = λ number e more m.
       let front = take end rest in
       let back = drop end rest in

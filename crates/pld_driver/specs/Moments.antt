@@ -1,6 +1,6 @@
 -- How far a session has come.
 use Rattle.std.specs.Prelude.{◌≡◌, ◌⊎◌, ◌+◌, ◌*◌, ◌<◌, ◌≤◌, ℕ, Bool, true, false, ◌||◌, List, [], ◌∷◌, ◌++◌, length, drop, All, Option, Some, None}
-use Rattle.std.specs.Io.KnownBytes.{Appends, Keeps}
+use Rattle.pld_io.specs.Outside.{SinkState, Accepts, AcceptsUntilFault}
 use Rattle.pld_script.specs.declared.statement.Statement.TheVariants.{Quit}
 use Rattle.pld_script.specs.declared.scan.Scan.{Scan}
 use Rattle.pld_script.specs.declared.next.Next.{Next}
@@ -18,7 +18,7 @@ use Rattle.pld_driver.specs.declared.answers.Given.{Given}
 use Rattle.pld_driver.specs.Walk.{Answered, Step, Says, Runs, walk, is_quit}
 
 -- This answer was given, and its permits were spent.
-pub record Gives {S : Type 0} (told : Answered S) (spent_old spent_new : ℕ) (reply : List ℕ) (refused : Bool) (next : S) : Type 0 where
+pub record IsAnswer {S : Type 0} (told : Answered S) (spent_old spent_new : ℕ) (reply : List ℕ) (refused : Bool) (next : S) : Type 0 where
   pub says : reply ≡ told.reply
   pub flag : refused ≡ told.refused
   pub state : next ≡ told.next
@@ -31,9 +31,9 @@ pub record Leaves {R : Type 0} (Fits : R → Type 0) (old new : List R) (run : R
 
 -- The answer was given, and a run has left its record.
 abbrev pub Took : {S R : Type 0} → Step S R → (R → Type 0) → Bench R → Bench R → List ℕ → Bool → S → Type 0
-Took {R = R} (Says told) Fits old new reply refused next = Gives told old.permits new.permits reply refused next × (new.records.items ≡ old.records.items)
+Took {R = R} (Says told) Fits old new reply refused next = IsAnswer told old.permits new.permits reply refused next × (new.records.items ≡ old.records.items)
 Took {R = R} (Runs answer) Fits old new reply refused next =
-    (run : R) × Leaves Fits old.records.items new.records.items run × Gives (answer run) old.permits new.permits reply refused next
+    (run : R) × Leaves Fits old.records.items new.records.items run × IsAnswer (answer run) old.permits new.permits reply refused next
 
 -- No answer was given: a part of its permits may be spent.
 abbrev pub Spends : ℕ → ℕ → ℕ → Type 0
@@ -46,11 +46,11 @@ Broke {R = R} (Runs answer) Fits old new =
     ((new.records.items ≡ old.records.items) × (new.permits ≡ old.permits))
     ⊎ ((run : R) × Leaves Fits old.records.items new.records.items run × Spends old.permits new.permits (answer run).permits)
 
--- what a session holds at a moment: the state, what it leaves, and what was written
+-- what a session holds at a moment: the state, what it leaves, and the sink
 pub record Held (S R : Type 0) : Type 0 where
   pub state : S
   pub bench : Bench R
-  pub written : Option (List ℕ)
+  pub sink : SinkState
 
 -- A moment of a session, with the number of the next line, how many bytes were used, and whether a statement was refused.
 pub record Point (S R : Type 0) : Type 0 where
@@ -73,7 +73,7 @@ pub record Goes {S R : Type 0} (step : S → Placed → Step S R) (Fits : S → 
   pub left : (walk step from.held.state done added).left ≡ []
   pub end : (walk step from.held.state done added).end ≡ Some to.held.state
   pub fit : All (λ run. Fits run.0 run.1) (walk step from.held.state done added).runs
-  pub put : Appends from.held.written to.held.written (walk step from.held.state done added).out
+  pub put : Accepts from.held.sink to.held.sink (walk step from.held.state done added).out
   pub refused : to.refused ≡ (from.refused || (walk step from.held.state done added).refused)
 
 -- This statement comes next, whatever follows the text.
@@ -85,21 +85,21 @@ Comes ended text at placed = (e : Bool) (more : List ℕ) → MayFollow ended e 
 pub record Answers {S R : Type 0} (step : S → Placed → Step S R) (Fits : S → R → Type 0) (placed : Placed) (from to : Held S R) (refused : Bool) : Type 0 where
   pub reply : List ℕ
   pub took : Took (step from.state placed) (Fits from.state) from.bench to.bench reply refused to.state
-  pub put : Appends from.written to.written reply
+  pub put : Accepts from.sink to.sink reply
 
--- The answer was given, and a part of the reply that isn't all was written.
+-- The answer was given, a part of the reply that isn't all was written, and then the sink failed.
 pub record Cuts {S R : Type 0} (step : S → Placed → Step S R) (Fits : S → R → Type 0) (placed : Placed) (from to : Held S R) : Type 0 where
   pub part : List ℕ
   pub missing : List ℕ
   pub refused : Bool
   pub some : 0 < length missing
   pub took : Took (step from.state placed) (Fits from.state) from.bench to.bench (part ++ missing) refused to.state
-  pub put : Appends from.written to.written part
+  pub put : AcceptsUntilFault from.sink to.sink part
 
 -- No answer was given, and nothing was written.
 pub record Breaks {S R : Type 0} (step : S → Placed → Step S R) (Fits : S → R → Type 0) (placed : Placed) (from to : Held S R) : Type 0 where
   pub broke : Broke (step from.state placed) (Fits from.state) from.bench to.bench
-  pub put : Keeps from.written to.written
+  pub put : Accepts from.sink to.sink []
 
 -- why the answer to a statement stops
 abbrev pub Stops : {S R : Type 0} → (S → Placed → Step S R) → (S → R → Type 0) → Placed → Held S R → Held S R → Stop → Type 0
@@ -152,13 +152,13 @@ status_of (flow.Stopped WriteFault) refused = status.WriteFault
 status_of (flow.Stopped NoMemory) refused = status.NoMemory
 
 -- what a session holds
-abbrev pub held_of : {S R : Type 0} → S → Bench R → Option (List ℕ) → Held S R
-held_of state bench written = record { state = state; bench = bench; written = written }
+abbrev pub held_of : {S R : Type 0} → S → Bench R → SinkState → Held S R
+held_of state bench sink = record { state = state; bench = bench; sink = sink }
 
 -- the moment at which a session stands in its text
-abbrev pub point_of : {S R : Type 0} → S → Bench R → Option (List ℕ) → Place → Point S R
-point_of state bench written place = record {
-  held = held_of state bench written;
+abbrev pub point_of : {S R : Type 0} → S → Bench R → SinkState → Place → Point S R
+point_of state bench sink place = record {
+  held = held_of state bench sink;
   number = place.number;
   start = place.start;
   refused = place.refused;

@@ -1,9 +1,9 @@
 //! The answers to the statements of a text.
 ghost use Rattle.std.specs.Prelude.{◌≡◌, ◌||◌, ◌+◌, ◌≤◌, ◌<◌, ◌^◌, ◌++◌, ℕ, List, [], length, OnOk, OnErr, IfOk, IfErr, true, false};
-ghost use Rattle.std.specs.Io.KnownBytes.{Appends};
-ghost use Rattle.pld_io.specs.Outside.{Rose};
+ghost use Rattle.pld_io.specs.Outside.{Accepts};
 ghost use Rattle.pld_script.specs.Statements.{Scanned};
 ghost use Rattle.pld_driver.specs.Walk.{is_quit};
+ghost use Rattle.pld_driver.specs.Outcome.{WritesPart};
 ghost use Rattle.pld_driver.specs.Moments.{Answers, Stops, Ends, IsReady, IsGiven, given_of, held_of, point_of, is_open as is_open_of, done_status as done_status_of, status_of as status_after};
 
 use super::{Bench, Engine, Status};
@@ -72,12 +72,9 @@ fn done_status(refused: bool) -> Status
 }
 
 /// Puts the whole piece, in as many puts as the sink needs.
-fn put_all<K: Sink>(sink: &mut K, piece: &[u8]) -> Result<(), Failed>
-    ensures ok { OnOk result (Appends (K.written sink.old) (K.written sink.new) piece.now) }
-    ensures err { OnErr result ((part : List ℕ) × (missing : List ℕ) × (piece.now ≡ part ++ missing) × (0 < length missing)
-        × Appends (K.written sink.old) (K.written sink.new) part) }
-    ensures later { K.faults sink.old ≤ K.faults sink.new }
-    ensures fault { OnErr result (Rose (K.faults sink.old) (K.faults sink.new)) }
+pub fn put_all<K: Sink>(sink: &mut K, piece: &[u8]) -> Result<(), Failed>
+    ensures ok { OnOk result (Accepts (K.state sink.old) (K.state sink.new) piece.now) }
+    ensures err { OnErr result (WritesPart (K.state sink.old) (K.state sink.new) piece.now) }
 {
     let mut done = 0;
     while done < piece.len() {
@@ -92,11 +89,8 @@ fn put_all<K: Sink>(sink: &mut K, piece: &[u8]) -> Result<(), Failed>
 
 /// Puts each line of the text by itself, with its line end.
 fn put_lines<K: Sink>(sink: &mut K, text: &[u8]) -> Result<(), Failed>
-    ensures ok { OnOk result (Appends (K.written sink.old) (K.written sink.new) text.now) }
-    ensures err { OnErr result ((part : List ℕ) × (missing : List ℕ) × (text.now ≡ part ++ missing) × (0 < length missing)
-        × Appends (K.written sink.old) (K.written sink.new) part) }
-    ensures later { K.faults sink.old ≤ K.faults sink.new }
-    ensures fault { OnErr result (Rose (K.faults sink.old) (K.faults sink.new)) }
+    ensures ok { OnOk result (Accepts (K.state sink.old) (K.state sink.new) text.now) }
+    ensures err { OnErr result (WritesPart (K.state sink.old) (K.state sink.new) text.now) }
 {
     let mut done = 0;
     while done < text.len() {
@@ -149,12 +143,10 @@ fn answer_one<K: Sink, E: Engine>(
 ) -> Result<bool, Stop>
     requires { bench.old.permits + 64 < 2 ^ 64 }
     ensures ok { IfOk result (λ refused. Answers E.step E.fits (record { number = number; said = said })
-        (held_of engine.old bench.old (K.written sink.old)) (held_of engine.new bench.new (K.written sink.new)) refused) }
+        (held_of engine.old bench.old (K.state sink.old)) (held_of engine.new bench.new (K.state sink.new)) refused) }
     ensures err { IfErr result (λ stop. Stops E.step E.fits (record { number = number; said = said })
-        (held_of engine.old bench.old (K.written sink.old)) (held_of engine.new bench.new (K.written sink.new)) stop) }
+        (held_of engine.old bench.old (K.state sink.old)) (held_of engine.new bench.new (K.state sink.new)) stop) }
     ensures few { bench.new.permits ≤ bench.old.permits + 64 }
-    ensures later { K.faults sink.old ≤ K.faults sink.new }
-    ensures fault { result ≡ Err Stop.WriteFault → Rose (K.faults sink.old) (K.faults sink.new) }
 {
     let mut reply = match Vec::with_capacity(alloc, REPLY) {
         Ok(reply) => reply,
@@ -267,11 +259,9 @@ pub fn answer_whole<K: Sink, E: Engine>(
 ) -> Flow
     requires ready { IsReady bytes.now place.old bench.old.permits }
     requires short { length bytes.now < 2 ^ 40 }
-    ensures ends { Ends E.step E.fits ended bytes.now (point_of engine.old bench.old (K.written sink.old) place.old)
-        (point_of engine.new bench.new (K.written sink.new) place.new) result }
+    ensures ends { Ends E.step E.fits ended bytes.now (point_of engine.old bench.old (K.state sink.old) place.old)
+        (point_of engine.new bench.new (K.state sink.new) place.new) result }
     ensures ready { result ≡ Flow.Open → IsReady bytes.now place.new bench.new.permits }
-    ensures later { K.faults sink.old ≤ K.faults sink.new }
-    ensures fault { result ≡ Flow.Stopped Stop.WriteFault → Rose (K.faults sink.old) (K.faults sink.new) }
 {
     'statements: while place.start < bytes.len() {
         let given = match next_given(alloc, &mut place.scan, &bytes[place.start..], ended) {

@@ -1,7 +1,6 @@
 //! A session from its first byte to its end.
-ghost use Rattle.std.specs.Prelude.{◌≡◌, ◌⊎◌, ◌+◌, ◌≤◌, ◌<◌, ◌^◌, [], length, take, vec_len, true, false, IsSome};
-ghost use Rattle.pld_io.specs.Outside.{Rose};
-ghost use Rattle.pld_driver.specs.Outcome.{Outcome, IsExact, IsTooLong};
+ghost use Rattle.std.specs.Prelude.{◌≡◌, ◌⊎◌, ◌+◌, ◌≤◌, ◌<◌, ◌^◌, [], length, take, vec_len, true, false};
+ghost use Rattle.pld_driver.specs.Outcome.{Outcome, moment_of};
 ghost use Rattle.pld_driver.specs.Reading.{Takes, limit};
 
 use super::answers::{Place, answer_whole};
@@ -37,9 +36,7 @@ fn most() -> usize
 fn take_piece<S: Source>(source: &mut S, text: &mut Vec<u8>, most: usize) -> Piece
     requires room { vec_len text.old ≤ most }
     requires small { most < 2 ^ 40 }
-    ensures takes { Takes (S.left source.old) (S.left source.new) most text.old.items text.new.items result }
-    ensures later { S.faults source.old ≤ S.faults source.new }
-    ensures fault { result ≡ Piece.Fault → Rose (S.faults source.old) (S.faults source.new) }
+    ensures takes { Takes (S.state source.old) (S.state source.new) most text.old.items text.new.items result }
 {
     let room = PIECE.min(most + 1 - text.len());
     match text.reserve(room) {
@@ -74,6 +71,7 @@ fn front(text: &[u8], most: usize) -> &[u8]
 /// `Fine` and `SomeRefused` come where the text was read to its end or to `quit`, and each reply was written; `ReadFault` where
 /// the source failed, and `TooLong` where the text has more than 16,777,216 bytes without a `quit`, and each reply to the whole
 /// statements before was written; `WriteFault` where the sink failed, `NoMemory` where memory was wanting, and `Usage` never.
+/// Once the source or the sink has failed, nothing more is asked of it.
 pub fn run<S: Source, K: Sink, E: Engine>(
     alloc: Global,
     source: &mut S,
@@ -85,20 +83,8 @@ pub fn run<S: Source, K: Sink, E: Engine>(
     requires permits { bench.old.permits ≡ 0 }
 
     // What the status says of the bytes that were taken, of what was written, and of what the bench holds.
-    ensures outcome { Outcome E.step E.fits engine.old (S.left source.old) (S.left source.new) (K.written sink.old) (K.written sink.new)
-        bench.new.permits bench.new.records.items result }
-
-    // The other way round.
-    ensures exact { (o : Outcome E.step E.fits engine.old (S.left source.old) (S.left source.new) (K.written sink.old) (K.written sink.new)
-        bench.new.permits bench.new.records.items result) → IsSome (K.written sink.old) → (Rose (S.faults source.old) (S.faults source.new) → ⊥) →
-        IsExact E.step engine.old (S.left source.new) (K.written sink.old) (K.written sink.new) o.taken bench.new.permits bench.new.records.items result }
-    ensures too_long { (o : Outcome E.step E.fits engine.old (S.left source.old) (S.left source.new) (K.written sink.old) (K.written sink.new)
-        bench.new.permits bench.new.records.items result) → IsSome (K.written sink.old) →
-        IsTooLong E.step engine.old (K.written sink.old) (K.written sink.new) o.taken bench.new.permits bench.new.records.items result }
-
-    // A fault is told only where there was one.
-    ensures read_fault { result ≡ Status.ReadFault → Rose (S.faults source.old) (S.faults source.new) }
-    ensures write_fault { result ≡ Status.WriteFault → Rose (K.faults sink.old) (K.faults sink.new) }
+    ensures outcome { Outcome E.step E.fits engine.old (moment_of (S.state source.old) (K.state sink.old) bench.old)
+        (moment_of (S.state source.new) (K.state sink.new) bench.new) result }
 {
     let most = most();
     let mut text = Vec::new(alloc);

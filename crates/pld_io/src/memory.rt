@@ -1,9 +1,8 @@
 //! Sources and sinks in memory, which fail at listed calls.
 
-ghost use Rattle.std.specs.Prelude.{◌≡◌, ◌+◌, ◌-◌, ◌^◌, ◌<◌, ◌≤◌, ◌↔◌, ◌⊎◌, ℕ, List, [], ◌++◌, length, min, drop, Some, IfOk, IsErr, OnOk, OnErr, Contains, vec_len, vec_capacity};
+ghost use Rattle.std.specs.Prelude.{◌≡◌, ◌+◌, ◌-◌, ◌^◌, ◌<◌, ◌≤◌, ◌↔◌, ◌⊎◌, ℕ, List, [], ◌++◌, length, min, take, drop, false, Some, IfOk, IsErr, OnOk, OnErr, Contains, vec_len, vec_capacity};
 ghost use Rattle.std.specs.Io.{ReadsAtMost, WritesAtMost};
-ghost use Rattle.std.specs.Io.KnownBytes.{ReadConsumes, WriteAppends};
-ghost use Rattle.pld_io.specs.Outside.{HasCause, HasPutCause};
+ghost use Rattle.pld_io.specs.Outside.{TakeGives, PutAccepts, TellsEnd};
 
 use super::{Failed, Sink, Source};
 use pld_base::NoMemory;
@@ -17,6 +16,8 @@ pub struct MemSource {
     fails: Vec<u64>,
     piece: usize,
     at: usize,
+    ended: bool,
+    failed: bool,
     calls: u64,
     faults: u64,
     ghost within: { at ≤ vec_len bytes },
@@ -28,7 +29,10 @@ impl MemSource {
     /// fail, counted from 1.
     pub fn new(bytes: Vec<u8>, fails: Vec<u64>, piece: usize) -> MemSource
         requires { 1 ≤ piece }
+        ensures given { take result.at result.bytes.items ≡ [] }
         ensures left { drop result.at result.bytes.items ≡ bytes.items }
+        ensures ended { result.ended ≡ false }
+        ensures failed { result.failed ≡ false }
         ensures fails { result.fails.items ≡ fails.items }
         ensures piece { result.piece ≡ piece }
         ensures calls { result.calls ≡ 0 }
@@ -39,6 +43,8 @@ impl MemSource {
             fails,
             piece,
             at: 0,
+            ended: false,
+            failed: false,
             calls: 0,
             faults: 0,
         }
@@ -46,23 +52,23 @@ impl MemSource {
 }
 
 impl Source for MemSource {
-    ghost left = { λ s. Some (drop s.at s.bytes.items) };
-
-    ghost faults = { λ s. s.faults };
+    ghost state = { λ s. record { given = take s.at s.bytes.items; ended = s.ended; failed = s.failed; remaining = Some (drop s.at s.bytes.items); faults = s.faults } };
 
     /// Fails exactly at a listed call, and then gives no byte and loses none.
     fn take(&mut self, buf: &mut [u8]) -> Result<usize, Failed>
         ensures bound { ReadsAtMost result buf.new }
-        ensures bytes { ReadConsumes (Some (drop self.old.at self.old.bytes.items)) (Some (drop self.new.at self.new.bytes.items)) result buf.new }
-        ensures cause { HasCause self.old.faults self.new.faults result }
+        ensures bytes { TakeGives (record { given = take self.old.at self.old.bytes.items; ended = self.old.ended; failed = self.old.failed; remaining = Some (drop self.old.at self.old.bytes.items); faults = self.old.faults })
+            (record { given = take self.new.at self.new.bytes.items; ended = self.new.ended; failed = self.new.failed; remaining = Some (drop self.new.at self.new.bytes.items); faults = self.new.faults }) result buf.new }
+        ensures end { TellsEnd (record { given = take self.new.at self.new.bytes.items; ended = self.new.ended; failed = self.new.failed; remaining = Some (drop self.new.at self.new.bytes.items); faults = self.new.faults }) result buf.new }
         ensures listed { IsErr result ↔ Contains self.old.fails.items self.new.calls }
         ensures calls { self.new.calls ≡ min (self.old.calls + 1) (2 ^ 64 - 1) }
         ensures kept { (self.new.fails.items ≡ self.old.fails.items) × (self.new.piece ≡ self.old.piece) }
         ensures count { IfOk result (λ n. n ≡ min self.old.piece (min (length buf.new) (vec_len self.old.bytes - self.old.at))) }
-        ensures faults { OnOk result (self.new.faults ≡ self.old.faults) }
     {
         self.calls = self.calls.saturating_add(1);
         if self.fails.contains(&self.calls) {
+            self.ended = false;
+            self.failed = true;
             self.faults = self.faults.saturating_add(1);
             return Err(Failed);
         }
@@ -71,6 +77,8 @@ impl Source for MemSource {
         let at = self.at;
         copy_front(buf, &self.bytes[at..at + count]);
         self.at = at + count;
+        self.ended = count == 0 && !buf.is_empty();
+        self.failed = false;
         Ok(count)
     }
 }
@@ -91,6 +99,7 @@ pub struct MemSink {
     bytes: Vec<u8>,
     fails: Vec<u64>,
     room: usize,
+    failed: bool,
     calls: u64,
     faults: u64,
     ghost within: { vec_len bytes ≤ room },
@@ -105,12 +114,14 @@ impl MemSink {
         ensures fails { IfOk result (λ sink. sink.fails.items ≡ fails.items) }
         ensures room { IfOk result (λ sink. sink.room ≡ room) }
         ensures counts { IfOk result (λ sink. (sink.calls ≡ 0) × (sink.faults ≡ 0)) }
+        ensures failed { IfOk result (λ sink. sink.failed ≡ false) }
     {
         let bytes = Vec::with_capacity(alloc, room)?;
         Ok(MemSink {
             bytes,
             fails,
             room,
+            failed: false,
             calls: 0,
             faults: 0,
         })
@@ -125,31 +136,31 @@ impl MemSink {
 }
 
 impl Sink for MemSink {
-    ghost written = { λ s. Some s.bytes.items };
-
-    ghost faults = { λ s. s.faults };
+    ghost state = { λ s. record { put = s.bytes.items; failed = s.failed; written = Some s.bytes.items; faults = s.faults } };
 
     /// Takes the whole piece, or fails and takes nothing of it.
     fn put(&mut self, piece: &[u8]) -> Result<usize, Failed>
         ensures bound { WritesAtMost result piece.now }
-        ensures bytes { WriteAppends (Some self.old.bytes.items) (Some self.new.bytes.items) result piece.now }
-        ensures cause { HasPutCause self.old.faults self.new.faults result piece.now }
+        ensures bytes { PutAccepts (record { put = self.old.bytes.items; failed = self.old.failed; written = Some self.old.bytes.items; faults = self.old.faults })
+            (record { put = self.new.bytes.items; failed = self.new.failed; written = Some self.new.bytes.items; faults = self.new.faults }) result piece.now }
         ensures whole { IfOk result (λ n. n ≡ length piece.now) }
         ensures listed { IsErr result ↔ (Contains self.old.fails.items self.new.calls ⊎ (self.old.room - vec_len self.old.bytes < length piece.now)) }
         ensures calls { self.new.calls ≡ min (self.old.calls + 1) (2 ^ 64 - 1) }
         ensures kept { (self.new.fails.items ≡ self.old.fails.items) × (self.new.room ≡ self.old.room) }
-        ensures faults { OnOk result (self.new.faults ≡ self.old.faults) }
     {
         self.calls = self.calls.saturating_add(1);
         if self.fails.contains(&self.calls) {
+            self.failed = true;
             self.faults = self.faults.saturating_add(1);
             return Err(Failed);
         }
         if piece.len() > self.room - self.bytes.len() {
+            self.failed = true;
             self.faults = self.faults.saturating_add(1);
             return Err(Failed);
         }
         self.bytes.extend_from_slice(piece).unwrap();
+        self.failed = false;
         Ok(piece.len())
     }
 }

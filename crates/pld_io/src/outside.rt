@@ -1,9 +1,7 @@
 //! What a source and a sink of bytes promise.
 
-ghost use Rattle.std.specs.Prelude.{ℕ, List, length, Option};
 ghost use Rattle.std.specs.Io.{ReadsAtMost, WritesAtMost};
-ghost use Rattle.std.specs.Io.KnownBytes.{ReadConsumes, WriteAppends};
-ghost use Rattle.pld_io.specs.Outside.{HasCause, HasPutCause};
+ghost use Rattle.pld_io.specs.Outside.{SourceState, SinkState, TakeGives, PutAccepts, TellsEnd};
 
 /// A source or a sink has failed. Nothing was taken or put by the call that says so.
 #[derive(Clone, Copy, Debug, PartialEq, Eq)]
@@ -11,33 +9,29 @@ pub struct Failed;
 
 /// Where bytes come from.
 pub trait Source {
-    /// The bytes that were not taken yet, where the source tells them.
-    ghost left: { Self → Option (List ℕ) };
-
-    /// How often it has failed. The count never falls.
-    ghost faults: { Self → ℕ };
+    /// What is known of it: the bytes that it has given, whether its last take found the end or failed, the bytes that remain
+    /// where it tells them, and how many takes have failed.
+    ghost state: { Self → SourceState };
 
     /// Takes the next bytes into the buffer, and says how many. It takes none into a buffer that isn't
-    /// empty only at the end. Where it fails, it has taken none.
+    /// empty only at the end. Where it fails, it has taken none, and the count of failures rises by one, up to 2^64 - 1.
     fn take(&mut self, buf: &mut [u8]) -> Result<usize, Failed>
         ensures bound { ReadsAtMost result buf.new }
-        ensures bytes { ReadConsumes (left self.old) (left self.new) result buf.new }
-        ensures cause { HasCause (faults self.old) (faults self.new) result };
+        ensures bytes { TakeGives (state self.old) (state self.new) result buf.new }
+        ensures end { TellsEnd (state self.new) result buf.new };
 }
 
 /// Where bytes go.
 pub trait Sink {
-    /// The bytes that were put, where the sink tells them.
-    ghost written: { Self → Option (List ℕ) };
+    /// What is known of it: the bytes that it has accepted, whether its last put failed, what it holds where it tells that,
+    /// and how many puts have failed.
+    ghost state: { Self → SinkState };
 
-    /// How often it has failed. The count never falls.
-    ghost faults: { Self → ℕ };
-
-    /// Puts the first bytes of the piece, and says how many. Where it fails, it has put none.
+    /// Puts the first bytes of the piece, and says how many. Where it fails, it has put none, and the count of failures rises
+    /// by one, up to 2^64 - 1. So it does where none of a piece that isn't empty was put.
     fn put(&mut self, piece: &[u8]) -> Result<usize, Failed>
         ensures bound { WritesAtMost result piece.now }
-        ensures bytes { WriteAppends (written self.old) (written self.new) result piece.now }
-        ensures cause { HasPutCause (faults self.old) (faults self.new) result piece.now };
+        ensures bytes { PutAccepts (state self.old) (state self.new) result piece.now };
 }
 
 /// Where a worker waits before it turns a page. It promises only to return.

@@ -1,7 +1,7 @@
 -- The lines of a text that is cut behind a line end.
-use Rattle.std.proofs.Common.{◌≡◌, ◌≢◌, ℕ, zero, suc, ◌+◌, ◌<◌, ◌≤◌, Bool, true, false, cond, List, [], ◌∷◌, ◌++◌, length, take, drop, get_or, refl, sym, ap, ◌∙◌, append_assoc, append-nil, subst, arith, nat_eq}
+use Rattle.std.proofs.Common.{◌≡◌, ◌≢◌, ℕ, zero, suc, ◌+◌, ◌<◌, ◌≤◌, Bool, true, false, cond, ◌&&◌, List, [], ◌∷◌, ◌++◌, length, take, drop, get_or, refl, sym, ap, ◌∙◌, append_assoc, append-nil, subst, arith, nat_eq, inl, inr}
 use Rattle.std.proofs.lemmas.Bool.Decides.{nat_tests}
-use Rattle.std.proofs.lemmas.List.{drop_all}
+use Rattle.std.proofs.lemmas.List.{drop_all, take_more}
 use Rattle.std.proofs.Math.Nat.{le_refl}
 use native.Mathlib.Numerals.{unary_clauses}
 use Rattle.pld_script.specs.Statements.{IsLine}
@@ -85,7 +85,18 @@ line_found ended bytes line n h clean e is = record {
       ∙ ap (lines f) (append_assoc (take n bytes) (10 ∷ drop (n + 1) bytes) more)
       ∙ lines-line f (take n bytes) (drop (n + 1) bytes ++ more) (no_ends bytes n clean (omega arith))
       ∙ ap (λ l. l ∷ lines f (drop (n + 1) bytes ++ more)) (sym is);
+  least = λ k p. lines-open (take k bytes) (no_ends bytes k (λ j q. clean j (omega arith)) (omega arith));
+  cut = inl (λ f more.
+      ap (λ l. lines f (l ++ more)) (take_more bytes n 0 h ∙ ap (λ b. take n bytes ++ b ∷ []) e)
+      ∙ ap (lines f) (append_assoc (take n bytes) (10 ∷ []) more)
+      ∙ lines-line f (take n bytes) more (no_ends bytes n clean (omega arith))
+      ∙ ap (λ l. l ∷ lines f more) (sym is));
 }
+
+no_end_front : (k : ℕ) (bytes : List ℕ) → HasNoEnd bytes → HasNoEnd (take k bytes)
+no_end_front zero bytes h = tt
+no_end_front (suc k) [] h = tt
+no_end_front (suc k) (b ∷ bytes) h = (h.0, no_end_front k bytes h.1)
 
 -- the whole is a line, where the text ends without a line end
 pub line_rest : (bytes : List ℕ) → HasNoEnd bytes → 0 < length bytes → IsLine true bytes bytes (length bytes)
@@ -99,6 +110,8 @@ line_rest (b ∷ bytes) clean some = record {
       subst P (sym (m.end refl)) (subst Q (sym (m.none refl))
       (ap (lines true) (append-nil (b ∷ bytes)) ∙ lines-last b bytes clean
       ∙ ap (λ l. (b ∷ bytes) ∷ lines true l) (sym (append-nil (drop (length bytes) bytes) ∙ drop_all (length bytes) bytes (le_refl (length bytes))))));
+  least = λ k p. lines-open (take k (b ∷ bytes)) (no_end_front k (b ∷ bytes) clean);
+  cut = inr (refl, refl, lines-open (b ∷ bytes) clean);
 }
 
 pub none_of : (bytes : List ℕ) → ((k : ℕ) → k < length bytes → get_or bytes k 0 ≢ 10) → HasNoEnd bytes
@@ -114,3 +127,24 @@ none_open ended bytes e clean = rw e (lines-open bytes clean)
 pub none_empty : (ended : Bool) (bytes : List ℕ) → length bytes ≡ 0 → lines ended bytes ≡ []
 none_empty ended [] h = refl
 none_empty ended (b ∷ bytes) h = absurd (omega arith)
+
+-- ---- a text that has ended has no line only where it has no byte
+
+onto_some : (b : ℕ) (ls : List (List ℕ)) → onto true b ls ≡ [] → ⊥
+onto_some b [] e = cc
+onto_some b (line ∷ ls) e = cc
+
+some_one : (t : Bool) (b : ℕ) → cond t ([] ∷ []) (onto true b []) ≡ [] → ⊥
+some_one true b e = cc
+some_one false b e = cc
+
+some_two : (t u v : Bool) (b : ℕ) (ls other : List (List ℕ)) → cond t ([] ∷ cond u ([] ∷ ls) other) (cond (u && v) (cond u ([] ∷ ls) other) (onto true b (cond u ([] ∷ ls) other))) ≡ [] → ⊥
+some_two true u v b ls other e = cc
+some_two false true true b ls other e = cc
+some_two false true false b ls other e = cc
+some_two false false v b ls other e = onto_some b other e
+
+pub no_lines : (bytes : List ℕ) → lines true bytes ≡ [] → length bytes ≡ 0
+no_lines [] e = refl
+no_lines (b ∷ []) e = absurd (some_one (nat_eq b 10) b e)
+no_lines (b ∷ c ∷ bytes) e = absurd (some_two (nat_eq b 10) (nat_eq c 10) (nat_eq b 13) b (lines true bytes) _ e)

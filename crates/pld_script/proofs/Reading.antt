@@ -1,29 +1,16 @@
 -- How far a reader has come, and what that says of the statements.
-use Rattle.std.proofs.Common.{◌≡◌, ℕ, ◌+◌, ◌-◌, ◌≤◌, Bool, false, List, [], ◌∷◌, ◌++◌, length, take, drop, refl, sym, ap, ◌∙◌, append_assoc, append-nil, subst, arith, length-append}
+use Rattle.std.proofs.Common.{◌≡◌, ℕ, ◌+◌, ◌-◌, Bool, false, List, [], ◌∷◌, ◌++◌, length, take, drop, refl, sym, ap, ◌∙◌, append_assoc, append-nil, subst, arith}
 use Rattle.std.proofs.lemmas.List.{drop-drop, length-drop, take_all}
 use Rattle.pld_script.specs.Lines.{lines}
-use Rattle.pld_script.specs.Grammar.{closes_text}
 use Rattle.pld_script.specs.Statements.{statements_from, statements_at, text_of, MayFollow, IsLine, HoldsNone, Reads}
 
 -- ---- a reader of lines
 
 -- the lines behind the next one
-next_lines : (ended : Bool) (bytes line : List ℕ) (at used : ℕ) → IsLine ended (drop at bytes) line used → (e : Bool) (more : List ℕ) → MayFollow ended e more
+pub next_lines : (ended : Bool) (bytes line : List ℕ) (at used : ℕ) → IsLine ended (drop at bytes) line used → (e : Bool) (more : List ℕ) → MayFollow ended e more
     → lines e (drop at bytes ++ more) ≡ line ∷ lines e (drop (at + used) bytes ++ more)
 next_lines ended bytes line at used h e more m =
     h.first e more m ∙ ap (λ l. line ∷ lines e (l ++ more)) (drop-drop used at bytes)
-
-pub reads_text : (ended : Bool) (bytes : List ℕ) (blank : ℕ) (head line : List ℕ) (text : List (List ℕ)) (at used : ℕ)
-    → Reads ended bytes blank (head ∷ text) at → IsLine ended (drop at bytes) line used → at ≤ length bytes → closes_text line ≡ false
-    → Reads ended bytes blank (head ∷ (text ++ line ∷ [])) (at + used)
-reads_text ended bytes blank head line text at used r h inside other = record {
-  within = omega (arith, h.within, length-drop {A = ℕ});
-  counts = omega (arith, h.some, r.counts, length-append {A = List ℕ});
-  same = λ number e more m.
-      r.same number e more m
-      ∙ ap (statements_from e (number + blank) (head ∷ text)) (next_lines ended bytes line at used h e more m)
-      ∙ (rw other refl);
-}
 
 pub reads_none : (ended : Bool) (bytes : List ℕ) (blank at : ℕ) → Reads ended bytes blank [] at → lines ended (drop at bytes) ≡ [] → HoldsNone ended bytes
 reads_none ended bytes blank at r none = λ number.
@@ -60,18 +47,3 @@ reads_more_at ended bytes blank head text at same r none =
     let P : Bool → Type 0 = λ x. Reads x bytes blank (head ∷ text) at in
     let Q : Bool → Type 0 = λ x. lines x (take (length bytes - at) (drop at bytes)) ≡ [] in
     reads_more bytes blank head text at (subst P same r) (ap (lines false) (sym (rest_of bytes at)) ∙ subst Q same none)
-
--- one more line of the text
-pub reads_text_at : (ended : Bool) (bytes : List ℕ) (blank : ℕ) (head line : List ℕ) (at used count : ℕ) (old mid new : List ℕ)
-    → (text : List (List ℕ)) × Reads ended bytes blank (head ∷ text) at × (old ≡ text_of text) × (count ≡ length text + 1)
-    → IsLine ended (take (length bytes - at) (drop at bytes)) line used → at ≤ length bytes → closes_text line ≡ false
-    → mid ≡ old ++ line → new ≡ mid ++ 10 ∷ []
-    → (text : List (List ℕ)) × Reads ended bytes blank (head ∷ text) (at + used) × (new ≡ text_of text) × (count + 1 ≡ length text + 1)
-reads_text_at ended bytes blank head line at used count old mid new s h inside other m n =
-    let P : List ℕ → Type 0 = λ l. IsLine ended l line used in
-    let here : IsLine ended (drop at bytes) line used = subst P (rest_of bytes at) h in (
-      s.0 ++ line ∷ [],
-      reads_text ended bytes blank head line s.0 at used s.1 here inside other,
-      n ∙ ap (λ l. l ++ 10 ∷ []) m ∙ append_assoc old line (10 ∷ []) ∙ ap (λ l. l ++ (line ++ 10 ∷ [])) s.2 ∙ sym (text_of-append s.0 line),
-      omega (arith, s.3, length-append {A = List ℕ}),
-    )

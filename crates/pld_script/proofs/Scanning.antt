@@ -60,15 +60,15 @@ record Step (line : List ℕ) (in_text : Bool) (skipped : ℕ) (begun : List (Li
   is_open : IsOpen in_text later
   same : (number : ℕ) (e : Bool) (ls : List (List ℕ)) → statements_from e (number + skipped) begun (line ∷ ls) ≡ statements_from e (number + count) later ls
 
-from_skipped : (e : Bool) (number : ℕ) (line : List ℕ) (ls : List (List ℕ)) → kind_of line ≡ Skipped → statements_from e number [] (line ∷ ls) ≡ statements_from e (number + 1) [] ls
+pub from_skipped : (e : Bool) (number : ℕ) (line : List ℕ) (ls : List (List ℕ)) → kind_of line ≡ Skipped → statements_from e number [] (line ∷ ls) ≡ statements_from e (number + 1) [] ls
 from_skipped e number line ls is =
     ap (λ (k : LineKind). elim k as (λ _. List Placed) [ Skipped ↦ statements_from e (number + 1) [] ls | Opens ↦ statements_from e number (line ∷ []) ls | Single ↦ record { number = number; said = line_statement line } ∷ statements_from e (number + 1) [] ls ]) is
 
-from_opens : (e : Bool) (number : ℕ) (line : List ℕ) (ls : List (List ℕ)) → kind_of line ≡ Opens → statements_from e number [] (line ∷ ls) ≡ statements_from e number (line ∷ []) ls
+pub from_opens : (e : Bool) (number : ℕ) (line : List ℕ) (ls : List (List ℕ)) → kind_of line ≡ Opens → statements_from e number [] (line ∷ ls) ≡ statements_from e number (line ∷ []) ls
 from_opens e number line ls is =
     ap (λ (k : LineKind). elim k as (λ _. List Placed) [ Skipped ↦ statements_from e (number + 1) [] ls | Opens ↦ statements_from e number (line ∷ []) ls | Single ↦ record { number = number; said = line_statement line } ∷ statements_from e (number + 1) [] ls ]) is
 
-from_single : (e : Bool) (number : ℕ) (line : List ℕ) (ls : List (List ℕ)) → kind_of line ≡ Single → statements_from e number [] (line ∷ ls) ≡ record { number = number; said = line_statement line } ∷ statements_from e (number + 1) [] ls
+pub from_single : (e : Bool) (number : ℕ) (line : List ℕ) (ls : List (List ℕ)) → kind_of line ≡ Single → statements_from e number [] (line ∷ ls) ≡ record { number = number; said = line_statement line } ∷ statements_from e (number + 1) [] ls
 from_single e number line ls is =
     ap (λ (k : LineKind). elim k as (λ _. List Placed) [ Skipped ↦ statements_from e (number + 1) [] ls | Opens ↦ statements_from e number (line ∷ []) ls | Single ↦ record { number = number; said = line_statement line } ∷ statements_from e (number + 1) [] ls ]) is
 
@@ -159,7 +159,7 @@ scan_found bytes line seen n in_text s h clean ten e number none =
     (sym (scan_same bytes line seen end in_text s order h found no_end number false [])
     ∙ ap (statements_at false number) (append-nil (take (end + 1) bytes)) ∙ none)
 
-open_none : (begun : List (List ℕ)) (number : ℕ) → statements_from false number begun [] ≡ []
+pub open_none : (begun : List (List ℕ)) (number : ℕ) → statements_from false number begun [] ≡ []
 open_none [] number = refl
 open_none (head ∷ text) number = refl
 

@@ -1,5 +1,5 @@
 -- The statements of a text.
-use Rattle.std.specs.Prelude.{ℕ, ◌+◌, ◌<◌, ◌≤◌, ◌≡◌, ◌≢◌, Bool, true, false, if◌then◌else◌, List, [], ◌∷◌, ◌++◌, length, take, drop, flat_map, slice_index, Option, Some, None}
+use Rattle.std.specs.Prelude.{ℕ, ◌+◌, ◌<◌, ◌≤◌, ◌≡◌, ◌≢◌, ◌⊎◌, Bool, true, false, if◌then◌else◌, List, [], ◌∷◌, ◌++◌, length, take, drop, flat_map, slice_index, Option, Some, None}
 use Rattle.pld_script.specs.Lines.{lines}
 use Rattle.pld_script.specs.Grammar.{kind_of, closes_text, line_statement, text_statement}
 use Rattle.pld_script.specs.declared.line.LineKind.{LineKind}
@@ -45,17 +45,32 @@ pub record MayFollow (ended e : Bool) (more : List ℕ) : Type 0 where
   pub end : ended ≡ true → e ≡ true
   pub none : ended ≡ true → more ≡ []
 
+-- no whole statement stands in these bytes
+abbrev pub HoldsNone : Bool → List ℕ → Type 0
+HoldsNone ended bytes = (number : ℕ) → statements_at ended number bytes ≡ []
+
+-- a whole statement stands in these bytes
+abbrev pub HoldsOne : List ℕ → Type 0
+HoldsOne bytes = (number : ℕ) → statements_at false number bytes ≢ []
+
 -- The first statement of these bytes, whatever follows: it has so many skipped lines before it and so many of its own, and uses so many bytes.
 pub record IsFirst (ended : Bool) (bytes : List ℕ) (said : Option Statement) (blank own used : ℕ) : Type 0 where
   pub within : used ≤ length bytes
   pub some : 1 ≤ used
   pub counts : blank + own ≤ used
+  -- so many lines are all lines of these bytes
+  pub own_lines : blank + own ≡ length (lines true (take used bytes))
+  -- no shorter front holds a whole statement
+  pub least : (n : ℕ) → n < used → HoldsNone false (take n bytes)
+  -- this one does, up to its line end, or it is all of a text that has ended
+  pub whole : HoldsOne (take used bytes) ⊎ ((ended ≡ true) × (used ≡ length bytes))
   pub first : (number : ℕ) (e : Bool) (more : List ℕ) → MayFollow ended e more →
       statements_at e number (bytes ++ more) ≡ record { number = number + blank; said = said } ∷ statements_at e (number + blank + own) (drop used bytes ++ more)
 
--- no whole statement stands in these bytes
-abbrev pub HoldsNone : Bool → List ℕ → Type 0
-HoldsNone ended bytes = (number : ℕ) → statements_at ended number bytes ≡ []
+-- The first statement of some bytes is told in one way.
+abbrev pub FirstsAreOne : Type 0
+FirstsAreOne = (ended : Bool) (bytes : List ℕ) (said said' : Option Statement) (blank own used blank' own' used' : ℕ)
+    → IsFirst ended bytes said blank own used → IsFirst ended bytes said' blank' own' used' → (said ≡ said') × (blank ≡ blank') × (own ≡ own') × (used ≡ used')
 
 -- What these bytes begin with: their first statement, or none that is whole.
 abbrev pub IsNext : Bool → List ℕ → Next → Type 0
@@ -69,10 +84,10 @@ pub record IsLine (ended : Bool) (bytes line : List ℕ) (used : ℕ) : Type 0 w
   pub within : used ≤ length bytes
   pub some : 1 ≤ used
   pub first : (e : Bool) (more : List ℕ) → MayFollow ended e more → lines e (bytes ++ more) ≡ line ∷ lines e (drop used bytes ++ more)
-
--- a whole statement stands in these bytes
-abbrev pub HoldsOne : List ℕ → Type 0
-HoldsOne bytes = (number : ℕ) → statements_at false number bytes ≢ []
+  -- no shorter front holds a whole line
+  pub least : (n : ℕ) → n < used → lines false (take n bytes) ≡ []
+  -- this one does, or it is all of a text that has ended, and has no line end
+  pub cut : ((e : Bool) (more : List ℕ) → lines e (take used bytes ++ more) ≡ line ∷ lines e more) ⊎ ((ended ≡ true) × (used ≡ length bytes) × (lines false bytes ≡ []))
 
 -- A statement's text is open exactly where lines of it have begun.
 abbrev pub IsOpen : Bool → List (List ℕ) → Type 0
@@ -102,10 +117,20 @@ abbrev pub after_line : Bool → List ℕ → Option Bool
 after_line true line = if closes_text line then None else Some true
 after_line false line = after_kind (kind_of line)
 
+-- A reader of these bytes has passed these lines, up to `at`, and no front up to there holds a whole statement.
+pub record HasPassed (ended : Bool) (bytes : List ℕ) (blank : ℕ) (begun : List (List ℕ)) (at : ℕ) : Type 0 where
+  pub passed : List (List ℕ)
+  pub count : length passed ≡ blank + length begun
+  pub all : lines true (take at bytes) ≡ passed
+  pub cut : ((e : Bool) (more : List ℕ) → lines e (take at bytes ++ more) ≡ passed ++ lines e more) ⊎ ((ended ≡ true) × (at ≡ length bytes))
+  pub walks : (number : ℕ) (e : Bool) (ls : List (List ℕ)) → statements_from e number [] (passed ++ ls) ≡ statements_from e (number + blank) begun ls
+  pub least : (n : ℕ) → n ≤ at → HoldsNone false (take n bytes)
+
 -- A reader of these bytes has come to `at`: it has passed so many skipped lines, and these lines of a statement.
 pub record Reads (ended : Bool) (bytes : List ℕ) (blank : ℕ) (begun : List (List ℕ)) (at : ℕ) : Type 0 where
   pub within : at ≤ length bytes
   pub counts : blank + length begun ≤ at
+  pub front : HasPassed ended bytes blank begun at
   pub same : (number : ℕ) (e : Bool) (more : List ℕ) → MayFollow ended e more →
       statements_at e number (bytes ++ more) ≡ statements_from e (number + blank) begun (lines e (drop at bytes ++ more))
 

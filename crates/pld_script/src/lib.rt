@@ -2,6 +2,7 @@
 #![tactic(auto)]
 
 mod grammar;
+mod laws;
 mod line;
 mod next;
 mod number;
@@ -11,6 +12,7 @@ mod statement;
 mod tests;
 mod text;
 
+pub use laws::firsts_are_one;
 pub use line::LineKind;
 pub use next::{Found, Next, Skipped, next_statement};
 pub use scan::Scan;

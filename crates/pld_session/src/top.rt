@@ -1,8 +1,8 @@
 //! The calls that run a session whole.
 
-ghost use Rattle.std.specs.Prelude.{◌≡◌, ◌↔◌, true, false, map, string_bytes, IsSome};
-ghost use Rattle.pld_io.specs.Outside.{Rose};
-ghost use Rattle.pld_session.specs.Headline.{IsFresh, IsInRange, Ran, RanExactly, RanTooLong, NothingHappened, is_command as is_command_of, default_rounds};
+ghost use Rattle.std.specs.Prelude.{◌≡◌, ◌↔◌, true, false, map, string_bytes};
+ghost use Rattle.pld_driver.specs.Outcome.{moment_of};
+ghost use Rattle.pld_session.specs.Headline.{IsFresh, IsInRange, SessionEnds, NothingHappened, is_command as is_command_of, default_rounds};
 
 use crate::session::Session;
 use direct_world::Record;
@@ -28,7 +28,7 @@ pub struct Options {
 /// statement as soon as its last line was taken, up to `quit` or the end. It waits for nobody. At
 /// want of memory, and at a fault of the sink, a part of the replies was written; at a fault of the
 /// source, and where the text has more than 16,777,216 bytes, all replies to the whole statements
-/// before.
+/// before. Once the source or the sink has failed, nothing more is asked of it.
 pub fn pld_plain<S: Source, K: Sink>(
     alloc: Global,
     o: &Options,
@@ -39,16 +39,7 @@ pub fn pld_plain<S: Source, K: Sink>(
     requires rounds { IsInRange o.now.rounds }
     requires fresh { IsFresh bench.old }
 
-    ensures outcome { Ran o.now.rounds (S.left src.old) (S.left src.new) (K.written sink.old) (K.written sink.new) bench.new result }
-    ensures exact { (ran : Ran o.now.rounds (S.left src.old) (S.left src.new) (K.written sink.old) (K.written sink.new) bench.new result) →
-        IsSome (K.written sink.old) → (Rose (S.faults src.old) (S.faults src.new) → ⊥) →
-        RanExactly o.now.rounds (S.left src.new) (K.written sink.old) (K.written sink.new) ran.taken bench.new result }
-    ensures too_long { (ran : Ran o.now.rounds (S.left src.old) (S.left src.new) (K.written sink.old) (K.written sink.new) bench.new result) →
-        IsSome (K.written sink.old) → RanTooLong o.now.rounds (K.written sink.old) (K.written sink.new) ran.taken bench.new result }
-
-    // A fault is told only where there was one.
-    ensures read_fault { result ≡ Status.ReadFault → Rose (S.faults src.old) (S.faults src.new) }
-    ensures write_fault { result ≡ Status.WriteFault → Rose (K.faults sink.old) (K.faults sink.new) }
+    ensures outcome { SessionEnds o.now.rounds (moment_of (S.state src.old) (K.state sink.old) bench.old) (moment_of (S.state src.new) (K.state sink.new) bench.new) result }
 {
     let mut session = Session::new(alloc, o.rounds);
     run(alloc, src, sink, &mut session, bench)
@@ -65,7 +56,7 @@ fn is_command(words: &[String]) -> bool
 }
 
 /// Runs the command that the words say, without the program's name. Usage comes exactly where they
-/// are no command; then nothing is read or written.
+/// are no command; then nothing is asked of the source and of the sink.
 pub fn pld<S: Source, K: Sink>(
     alloc: Global,
     words: &[String],
@@ -76,19 +67,11 @@ pub fn pld<S: Source, K: Sink>(
     requires { IsFresh bench.old }
 
     ensures usage { (result ≡ Status.Usage) ↔ (is_command_of (map string_bytes words.now) ≡ false) }
-    ensures nothing { result ≡ Status.Usage → NothingHappened (S.left src.old) (S.left src.new) (K.written sink.old) (K.written sink.new) bench.new }
+    ensures nothing { result ≡ Status.Usage →
+        NothingHappened (moment_of (S.state src.old) (K.state sink.old) bench.old) (moment_of (S.state src.new) (K.state sink.new) bench.new) }
 
     ensures outcome { is_command_of (map string_bytes words.now) ≡ true →
-        Ran default_rounds (S.left src.old) (S.left src.new) (K.written sink.old) (K.written sink.new) bench.new result }
-    ensures exact { (ran : Ran default_rounds (S.left src.old) (S.left src.new) (K.written sink.old) (K.written sink.new) bench.new result) →
-        IsSome (K.written sink.old) → (Rose (S.faults src.old) (S.faults src.new) → ⊥) →
-        RanExactly default_rounds (S.left src.new) (K.written sink.old) (K.written sink.new) ran.taken bench.new result }
-    ensures too_long { (ran : Ran default_rounds (S.left src.old) (S.left src.new) (K.written sink.old) (K.written sink.new) bench.new result) →
-        IsSome (K.written sink.old) → RanTooLong default_rounds (K.written sink.old) (K.written sink.new) ran.taken bench.new result }
-
-    // A fault is told only where there was one.
-    ensures read_fault { result ≡ Status.ReadFault → Rose (S.faults src.old) (S.faults src.new) }
-    ensures write_fault { result ≡ Status.WriteFault → Rose (K.faults sink.old) (K.faults sink.new) }
+        SessionEnds default_rounds (moment_of (S.state src.old) (K.state sink.old) bench.old) (moment_of (S.state src.new) (K.state sink.new) bench.new) result }
 {
     if !is_command(words) {
         return Status::Usage;

@@ -1,12 +1,11 @@
 use Rattle.std.proofs.Common.{◌≤◌, ◌-◌, length, take}
-use Rattle.std.specs.Io.KnownBytes.{Appends}
+use Rattle.pld_io.specs.Outside.{Accepts}
 use Rattle.pld_driver.proofs.answers.put_all.Given as goal
 
 abbrev pub invariant-loop-done : goal.invariant-loop-done
 invariant-loop-done g l = record {
   within : l.done ≤ length l.piece;
-  put : Appends (g.K.Sink.written l.fn.sink) (g.K.Sink.written l.sink) (take l.done l.piece);
-  later : g.K.Sink.faults l.fn.sink ≤ g.K.Sink.faults l.sink;
+  put : Accepts (g.K.Sink.state l.fn.sink) (g.K.Sink.state l.sink) (take l.done l.piece);
 }
 
 abbrev pub decreases-loop-done : goal.decreases-loop-done

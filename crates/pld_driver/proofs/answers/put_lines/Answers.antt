@@ -11,5 +11,4 @@ pub loop-done-preserved : goal.loop-done-preserved
 loop-done-preserved g c = record {
   within = omega (arith, c.line_len-len.ensures.within, length-take {A = ℕ}, length-drop {A = ℕ});
   put = puts_more _ _ _ c.args.text.now c.loop-done.done c.line_len-len.result c.loop-done.invariant.put c.in-Ok.ensures.ok;
-  later = omega (arith, c.put_all.ensures.later);
 }

@@ -1,9 +1,8 @@
 use Rattle.std.proofs.Common.{length, take, ◌≤◌, ◌<◌, arith, ap, sym, ◌∙◌}
-use Rattle.std.proofs.Math.Nat.{le_refl}
 use Rattle.pld_driver.specs.Reading.{limit}
 use Rattle.pld_driver.specs.Moments.{point_of}
 use Rattle.pld_driver.proofs.Walks.{Goes-refl}
-use Rattle.pld_driver.proofs.Endings.{first_point, open_took, same_took, open_ends, open_all, is_open_flow, open_ready, last_ends, last_ready, open_outcome, open_memory, read_fault, too_long, last_outcome, fault_told, no_read_fault, limit_small, text_small, front_small, exact_of, long_of, init_took, init_none, init_ready, ready_still}
+use Rattle.pld_driver.proofs.Endings.{first_point, open_took, same_took, fault_took, open_ends, open_all, is_open_flow, open_ready, last_ends, last_ready, open_outcome, open_memory, read_fault, too_long, last_outcome, limit_small, text_small, front_small, init_took, init_none, init_ready, ready_still}
 use Rattle.pld_driver.proofs.session.run.Goals as goal
 
 pub pieces-init : goal.pieces-init
@@ -13,8 +12,6 @@ pieces-init g c = record {
   within = omega (arith, ap length c.new-text.ensures.items);
   all = record { goes = Goes-refl _ _ _ (take limit c.new-text.result.items) _ (omega arith); none = init_none c.new-text.result.items c.new-text.ensures.items };
   ready = init_ready c.new-text.result.items c.new.result _ c.requires.permits c.new.ensures.line c.new.ensures.seen c.new.ensures.in_text;
-  source = le_refl _;
-  sink = le_refl _;
 }
 
 pub take_piece-requires-clause-small : goal.take_piece-requires-clause-small
@@ -29,41 +26,33 @@ answer_whole-last-requires-clause-short g c =
     let h : length c.pieces.text.items ≤ limit = omega (arith, c.pieces.text.ok.0) in
     text_small c.as_slice-bytes.result.now c.pieces.text.items (c.as_slice-bytes.ensures.value ∙ c.in-End.ensures.takes.0) h
 
-pub returns-in-End-clause-outcome : goal.returns-in-End-clause-outcome
-returns-in-End-clause-outcome g c =
+pub returns-in-End : goal.returns-in-End
+returns-in-End g c =
     let h : length c.pieces.text.items ≤ limit = omega (arith, c.pieces.text.ok.0) in
-    rw c.status.ensures (last_outcome _ _ _ c.args.bench.now _ _ _ c.pieces.text.items
-    (point_of c.answer_whole-last.new.engine c.answer_whole-last.new.bench (g.K.Sink.written c.answer_whole-last.new.sink) c.answer_whole-last.new.place) c.answer_whole-last.result
-    (record { records = c.requires.records; permits = c.requires.permits })
-    (same_took _ _ _ c.pieces.text.items c.pieces.invariant.took c.in-End.ensures.takes.1) c.in-End.ensures.takes.2 h
-    (last_ends _ _ c.pieces.text.items c.take_piece.new.text.items c.as_slice-bytes.result.now _ (point_of c.pieces.engine c.pieces.bench (g.K.Sink.written c.pieces.sink) c.pieces.place)
-    (point_of c.answer_whole-last.new.engine c.answer_whole-last.new.bench (g.K.Sink.written c.answer_whole-last.new.sink) c.answer_whole-last.new.place) c.answer_whole-last.result
-    c.in-End.ensures.takes.0 c.as_slice-bytes.ensures.value h c.pieces.invariant.all.goes c.answer_whole-last.ensures.ends))
+    record {
+      outcome = rw c.status.ensures (last_outcome _ _ _ c.args.bench.now _ _ _ c.pieces.text.items
+          (point_of c.answer_whole-last.new.engine c.answer_whole-last.new.bench (g.K.Sink.state c.answer_whole-last.new.sink) c.answer_whole-last.new.place) c.answer_whole-last.result
+          (record { records = c.requires.records; permits = c.requires.permits })
+          (same_took _ _ _ c.pieces.text.items c.pieces.invariant.took c.in-End.ensures.takes.1) c.in-End.ensures.takes.2 h
+          (last_ends _ _ c.pieces.text.items c.take_piece.new.text.items c.as_slice-bytes.result.now _ (point_of c.pieces.engine c.pieces.bench (g.K.Sink.state c.pieces.sink) c.pieces.place)
+          (point_of c.answer_whole-last.new.engine c.answer_whole-last.new.bench (g.K.Sink.state c.answer_whole-last.new.sink) c.answer_whole-last.new.place) c.answer_whole-last.result
+          c.in-End.ensures.takes.0 c.as_slice-bytes.ensures.value h c.pieces.invariant.all.goes c.answer_whole-last.ensures.ends));
+    }
 
-pub returns-in-End-clause-exact : goal.returns-in-End-clause-exact
-returns-in-End-clause-exact g c = λ o t rose. exact_of _ _ _ _ _ o.taken _ _ _ o.told t (λ e. no_read_fault c.answer_whole-last.result c.answer_whole-last.new.place.refused (sym c.status.ensures ∙ e))
-
-pub returns-in-End-clause-too_long : goal.returns-in-End-clause-too_long
-returns-in-End-clause-too_long g c = λ o t. long_of _ _ _ _ _ o.taken _ _ _ o.told t
-
-pub returns-in-End-clause-read_fault : goal.returns-in-End-clause-read_fault
-returns-in-End-clause-read_fault g c = λ e. absurd (no_read_fault c.answer_whole-last.result c.answer_whole-last.new.place.refused (sym c.status.ensures ∙ e))
-
-pub returns-in-End-clause-write_fault : goal.returns-in-End-clause-write_fault
-returns-in-End-clause-write_fault g c = λ e.
-    let rose = c.answer_whole-last.ensures.fault (fault_told c.answer_whole-last.result c.answer_whole-last.new.place.refused (sym c.status.ensures ∙ e)) in
-    omega (arith, rose, c.pieces.invariant.sink)
-
-pub returns-in-Fault-clause-outcome : goal.returns-in-Fault-clause-outcome
-returns-in-Fault-clause-outcome g c =
+pub returns-in-Fault : goal.returns-in-Fault
+returns-in-Fault g c =
     let h : length c.pieces.text.items ≤ limit = omega (arith, c.pieces.text.ok.0) in
-    read_fault _ _ _ c.args.bench.now _ _ _ c.pieces.text.items (point_of c.pieces.engine c.pieces.bench (g.K.Sink.written c.pieces.sink) c.pieces.place)
-    (record { records = c.requires.records; permits = c.requires.permits }) (same_took _ _ _ c.pieces.text.items c.pieces.invariant.took c.in-Fault.ensures.takes.1) h c.pieces.invariant.all
+    record {
+      outcome = read_fault _ _ _ c.args.bench.now _ _ _ c.pieces.text.items (point_of c.pieces.engine c.pieces.bench (g.K.Sink.state c.pieces.sink) c.pieces.place)
+          (record { records = c.requires.records; permits = c.requires.permits }) (fault_took _ _ _ c.pieces.text.items c.pieces.invariant.took c.in-Fault.ensures.takes.1) c.in-Fault.ensures.takes.2 h c.pieces.invariant.all;
+    }
 
-pub returns-in-NoMemory-clause-outcome : goal.returns-in-NoMemory-clause-outcome
-returns-in-NoMemory-clause-outcome g c =
-    open_memory _ _ _ c.args.bench.now _ _ _ c.pieces.text.items (point_of c.pieces.engine c.pieces.bench (g.K.Sink.written c.pieces.sink) c.pieces.place)
-    (record { records = c.requires.records; permits = c.requires.permits }) (same_took _ _ _ c.pieces.text.items c.pieces.invariant.took c.in-NoMemory.ensures.takes.1) c.pieces.invariant.all.goes
+pub returns-in-NoMemory : goal.returns-in-NoMemory
+returns-in-NoMemory g c =
+    record {
+      outcome = open_memory _ _ _ c.args.bench.now _ _ _ c.pieces.text.items (point_of c.pieces.engine c.pieces.bench (g.K.Sink.state c.pieces.sink) c.pieces.place)
+          (record { records = c.requires.records; permits = c.requires.permits }) (same_took _ _ _ c.pieces.text.items c.pieces.invariant.took c.in-NoMemory.ensures.takes.1) c.pieces.invariant.all.goes;
+    }
 
 pub answer_whole-flow-requires-clause-ready : goal.answer_whole-flow-requires-clause-ready
 answer_whole-flow-requires-clause-ready g c =
@@ -77,41 +66,29 @@ pieces-preserved g c = record {
   most = c.most-most.ensures;
   took = open_took _ _ _ c.most-most.result c.pieces.text.items c.take_piece.new.text.items c.pieces.invariant.took c.in-Some.ensures.takes;
   within = c.in-Some.ensures.takes.3;
-  all = open_all g.E.Engine.step g.E.Engine.fits (g.S.Source.left c.pieces.source) (g.S.Source.left c.take_piece.new.source) c.most-most.result c.pieces.text.items c.take_piece.new.text.items c.front-bytes.result.now
-      (first_point c.args.engine.now c.args.bench.now (g.K.Sink.written c.args.sink.now)) (point_of c.pieces.engine c.pieces.bench (g.K.Sink.written c.pieces.sink) c.pieces.place)
-      (point_of c.answer_whole-flow.new.engine c.answer_whole-flow.new.bench (g.K.Sink.written c.answer_whole-flow.new.sink) c.answer_whole-flow.new.place) c.answer_whole-flow.result
+  all = open_all g.E.Engine.step g.E.Engine.fits (g.S.Source.state c.pieces.source) (g.S.Source.state c.take_piece.new.source) c.most-most.result c.pieces.text.items c.take_piece.new.text.items c.front-bytes.result.now
+      (first_point c.args.engine.now c.args.bench.now (g.K.Sink.state c.args.sink.now)) (point_of c.pieces.engine c.pieces.bench (g.K.Sink.state c.pieces.sink) c.pieces.place)
+      (point_of c.answer_whole-flow.new.engine c.answer_whole-flow.new.bench (g.K.Sink.state c.answer_whole-flow.new.sink) c.answer_whole-flow.new.place) c.answer_whole-flow.result
       c.most-most.ensures (omega (arith, c.pieces.text.ok.0)) c.in-Some.ensures.takes (cc) c.pieces.invariant.all.goes c.answer_whole-flow.ensures.ends (is_open_flow c.answer_whole-flow.result (cc));
   ready = ready_still c.take_piece.new.text.items c.front-bytes.result.now c.answer_whole-flow.new.place _ (cc) (c.answer_whole-flow.ensures.ready (is_open_flow c.answer_whole-flow.result (cc)));
-  source = omega (arith, c.pieces.invariant.source, c.take_piece.ensures.later);
-  sink = omega (arith, c.pieces.invariant.sink, c.answer_whole-flow.ensures.later);
 }
 
-pub returns-then-not-is_open-clause-outcome : goal.returns-then-not-is_open-clause-outcome
-returns-then-not-is_open-clause-outcome g c =
-    rw c.status-then-not-is_open.ensures (open_outcome _ _ _ c.args.bench.now _ _ _ c.take_piece.new.text.items
-    (point_of c.answer_whole-flow.new.engine c.answer_whole-flow.new.bench (g.K.Sink.written c.answer_whole-flow.new.sink) c.answer_whole-flow.new.place) c.answer_whole-flow.result
-    (record { records = c.requires.records; permits = c.requires.permits })
-    (open_took _ _ _ c.most-most.result c.pieces.text.items c.take_piece.new.text.items c.pieces.invariant.took c.in-Some.ensures.takes)
-    (open_ends _ _ _ _ c.most-most.result c.pieces.text.items c.take_piece.new.text.items c.front-bytes.result.now _ (point_of c.pieces.engine c.pieces.bench (g.K.Sink.written c.pieces.sink) c.pieces.place)
-    (point_of c.answer_whole-flow.new.engine c.answer_whole-flow.new.bench (g.K.Sink.written c.answer_whole-flow.new.sink) c.answer_whole-flow.new.place) c.answer_whole-flow.result
-    c.most-most.ensures (omega (arith, c.pieces.text.ok.0)) c.in-Some.ensures.takes (cc) c.pieces.invariant.all.goes c.answer_whole-flow.ensures.ends) (cc))
+pub returns-then-not-is_open : goal.returns-then-not-is_open
+returns-then-not-is_open g c =
+    record {
+      outcome = rw c.status-then-not-is_open.ensures (open_outcome _ _ _ c.args.bench.now _ _ _ c.take_piece.new.text.items
+          (point_of c.answer_whole-flow.new.engine c.answer_whole-flow.new.bench (g.K.Sink.state c.answer_whole-flow.new.sink) c.answer_whole-flow.new.place) c.answer_whole-flow.result
+          (record { records = c.requires.records; permits = c.requires.permits })
+          (open_took _ _ _ c.most-most.result c.pieces.text.items c.take_piece.new.text.items c.pieces.invariant.took c.in-Some.ensures.takes)
+          (open_ends _ _ _ _ c.most-most.result c.pieces.text.items c.take_piece.new.text.items c.front-bytes.result.now _ (point_of c.pieces.engine c.pieces.bench (g.K.Sink.state c.pieces.sink) c.pieces.place)
+          (point_of c.answer_whole-flow.new.engine c.answer_whole-flow.new.bench (g.K.Sink.state c.answer_whole-flow.new.sink) c.answer_whole-flow.new.place) c.answer_whole-flow.result
+          c.most-most.ensures (omega (arith, c.pieces.text.ok.0)) c.in-Some.ensures.takes (cc) c.pieces.invariant.all.goes c.answer_whole-flow.ensures.ends) (cc));
+    }
 
-pub returns-then-not-is_open-clause-exact : goal.returns-then-not-is_open-clause-exact
-returns-then-not-is_open-clause-exact g c = λ o t rose. exact_of _ _ _ _ _ o.taken _ _ _ o.told t (λ e. no_read_fault c.answer_whole-flow.result c.answer_whole-flow.new.place.refused (sym c.status-then-not-is_open.ensures ∙ e))
-
-pub returns-then-not-is_open-clause-too_long : goal.returns-then-not-is_open-clause-too_long
-returns-then-not-is_open-clause-too_long g c = λ o t. long_of _ _ _ _ _ o.taken _ _ _ o.told t
-
-pub returns-then-not-is_open-clause-read_fault : goal.returns-then-not-is_open-clause-read_fault
-returns-then-not-is_open-clause-read_fault g c = λ e. absurd (no_read_fault c.answer_whole-flow.result c.answer_whole-flow.new.place.refused (sym c.status-then-not-is_open.ensures ∙ e))
-
-pub returns-then-not-is_open-clause-write_fault : goal.returns-then-not-is_open-clause-write_fault
-returns-then-not-is_open-clause-write_fault g c = λ e.
-    let rose = c.answer_whole-flow.ensures.fault (fault_told c.answer_whole-flow.result c.answer_whole-flow.new.place.refused (sym c.status-then-not-is_open.ensures ∙ e)) in
-    omega (arith, rose, c.pieces.invariant.sink)
-
-pub returns-clause-outcome : goal.returns-clause-outcome
-returns-clause-outcome g c =
+pub returns : goal.returns
+returns g c =
     let h : limit < length c.pieces.text.items = omega (arith, c.pieces.text.ok.0) in
-    too_long _ _ _ c.args.bench.now _ _ _ c.pieces.text.items (point_of c.pieces.engine c.pieces.bench (g.K.Sink.written c.pieces.sink) c.pieces.place)
-    (record { records = c.requires.records; permits = c.requires.permits }) c.pieces.invariant.took h c.pieces.invariant.all
+    record {
+      outcome = too_long _ _ _ c.args.bench.now _ _ _ c.pieces.text.items (point_of c.pieces.engine c.pieces.bench (g.K.Sink.state c.pieces.sink) c.pieces.place)
+          (record { records = c.requires.records; permits = c.requires.permits }) c.pieces.invariant.took h c.pieces.invariant.all;
+    }
