@@ -1,6 +1,6 @@
 //! Designs of many operators: their sessions, with the replies worked out by hand. Each runs with both kinds of page.
 
-use crate::tests::run;
+use crate::answers::run;
 use pld_base::NoMemory;
 use pld_session::Status;
 use std::alloc::Global;

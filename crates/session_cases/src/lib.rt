@@ -1,0 +1,7 @@
+//! Whole sessions in memory, with replies made by hand.
+#![tactic(auto)]
+
+#[cfg(test)]
+mod answers;
+#[cfg(test)]
+mod designs;
