@@ -3,7 +3,6 @@ pub mod Fits
 pub mod Steps
 pub mod Values
 pub mod Actions
-pub mod AreWords
 pub mod Processes
 pub mod Realised
 pub mod Ranges

@@ -33,7 +33,7 @@ use Rattle.fsm_back.proofs.Moves.{moves, EndsAt}
 use Rattle.fsm_back.proofs.Steps.{HasStages, stages_front, stages_back, at_place, HasPiece, HasPieces, pieces_front, pieces_back, begins, moves_on, end_runs}
 use Rattle.fsm_back.proofs.Values.{Frame}
 use Rattle.fsm_back.proofs.Actions.{HasMade, Runs, action_runs}
-use Rattle.fsm_back.proofs.AreWords.{trace_words}
+use Rattle.pld_ast.proofs.WordLaws.{trace_words}
 use Rattle.fsm_back.proofs.Processes.{end_of, page_told}
 
 has_all : (is pre : List Stage) → HasStages (slice_get (pre ++ is)) (length pre) is

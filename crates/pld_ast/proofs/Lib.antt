@@ -3,3 +3,4 @@ pub mod Views
 pub mod Grows
 pub mod ReadLaws
 pub mod TraceLaws
+pub mod WordLaws

@@ -4,3 +4,4 @@ pub mod Program
 pub mod Resolve
 pub mod Meaning
 pub mod Sound
+pub mod AreWords

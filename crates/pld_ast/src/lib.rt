@@ -9,7 +9,7 @@ mod operations;
 mod places;
 mod tree;
 
-pub use laws::operators_are_processes;
+pub use laws::{operators_are_processes, words_stay_words};
 pub use lookup::{
     join, scalar_place, type_after, type_between, type_in, type_of_array, type_of_scalar,
 };

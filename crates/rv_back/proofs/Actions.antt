@@ -19,7 +19,8 @@ use Rattle.pld_ast.specs.Sound.{IsSound, IsKnownValue, IsKnown}
 use Rattle.pld_ast.specs.Meaning.{State, Outcome, Goes, set_scalar, set_element, index_in, value_of, then_do, and_event, take_word, meaning}
 use Rattle.rv_back.specs.Code.{push, pop, register_at, set_to, read_from, base_of, address, value_code, unless, read_at, action_code}
 use Rattle.rv_back.proofs.Steps.{HasAt, has_front, has_back, IsShort, place_port, page_of, Leads, lead_on, lead_with, line_moves, step_is}
-use Rattle.rv_back.proofs.AreWords.{WroteWords, value_word}
+use Rattle.pld_ast.specs.AreWords.{WroteWords}
+use Rattle.pld_ast.proofs.WordLaws.{value_word}
 use Rattle.rv_back.proofs.Frames.{with_other, past10, StandsAt, stands_at, set_high, Kept, Frame, array_within, frame_same, frame_near, frame_left}
 use Rattle.rv_back.proofs.Lines.{Pushed, push_line, Popped, pop_line, aside_line, set_line, store_line, address_line, in_range}
 use Rattle.rv_back.proofs.Values.{Ready, Evaluates, ready_after, ready_pushed, evaluates_on, line_gives, value_runs}

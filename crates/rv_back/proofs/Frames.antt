@@ -12,7 +12,8 @@ use Rattle.pld_ast.specs.Program.{Program}
 use Rattle.pld_ast.specs.Sound.{IsSound}
 use Rattle.pld_ast.specs.Meaning.{State, set_scalar, set_element}
 use Rattle.rv_back.specs.Code.{register_at, base_of}
-use Rattle.rv_back.proofs.AreWords.{WroteWords, StateWords}
+use Rattle.pld_ast.specs.AreWords.{WroteWords, StateWords}
+use Rattle.pld_ast.proofs.WordLaws.{scalar_words, element_words}
 
 -- ---- functions changed at one place
 
@@ -124,10 +125,6 @@ apart : (l : List ℕ) (t u i j : ℕ) → t ≢ u → t < length l → u < leng
 apart l t u i j other ht hu hi hj e =
     ⊎_elim (λ lt. let o = ordered l t u lt hu in omega arith) (λ le. let lt : u < t = omega arith in let o = ordered l u t lt ht in omega arith) (cases_lt t u)
 
-if_is_word : (b : Bool) (x y : ℕ) → IsWord x → IsWord y → IsWord (if b then x else y)
-if_is_word true x y h k = h
-if_is_word false x y h k = k
-
 module _ (g : Program) (sound : IsSound g) where
   -- the arrays' words end where the pushed ones begin
   pub array_within : (t i : ℕ) → t < length g.lengths → i < slice_index g.lengths t → base_of g.lengths t + i < 8256
@@ -147,14 +144,6 @@ module _ (g : Program) (sound : IsSound g) where
   frame_kept st d m to f k = frame_same st m to f k.x8 k.x9 k.high (λ w h. k.ram w (omega arith))
 
   -- ---- stores
-
-  scalar_words : (st : State) (s v : ℕ) → StateWords st → IsWord v → StateWords (set_scalar st s v)
-  scalar_words st s v f w = record {
-    scalars = λ u. if_is_word (nat_eq u s) v (st.scalars u) w (f.scalars u);
-    arrays = f.arrays;
-    left = f.left;
-    written = f.written;
-  }
 
   -- a scalar's register, by its number
   near_word : (st : State) (m : Machine) (s v u : ℕ) → Frame g st m → u < g.scalars → u < 20 → with m.regs (12 + s) v (12 + u) ≡ with st.scalars s v u
@@ -203,17 +192,8 @@ module _ (g : Program) (sound : IsSound g) where
     near = λ s j l. ap (λ r. r (12 + s)) regs ∙ f.near s j l;
     far = λ s j l. ap (λ r. r s) ram ∙ with_other m.ram (base_of g.lengths t + i) v s (let small = sound.scalars in let n : s ≢ base_of g.lengths t + i = omega arith in n) ∙ f.far s j l;
     arrays = λ u j hu hj. ap (λ r. r (base_of g.lengths u + j)) ram ∙ element_word st m t i v u j f h k hu hj;
-    words = record {
-      scalars = f.words.scalars;
-      arrays = λ u j. element_is_word (nat_eq u t) u j;
-      left = f.words.left;
-      written = f.words.written;
-    };
+    words = element_words st t i v f.words w;
   }
-    where
-      element_is_word : (b : Bool) (u j : ℕ) → IsWord ((if b then with (st.arrays t) i v else st.arrays u) j)
-      element_is_word true u j = if_is_word (nat_eq j i) v (st.arrays t j) w (f.words.arrays t j)
-      element_is_word false u j = f.words.arrays u j
 
   -- other words to read, and other events
   pub frame_left : (st : State) (m : Machine) (left : ℕ → List ℕ) (events : List Event) → Frame g st m → ((p : ℕ) → All IsWord (left p)) → WroteWords events → Frame g (record st { left = left; events = events }) m

@@ -1,5 +1,4 @@
 pub mod Actions
-pub mod AreWords
 pub mod Closing
 pub mod Frames
 pub mod Lengths

@@ -26,7 +26,7 @@ use Rattle.pld_ast.specs.Meaning.{Outcome, Goes, Over, meaning, trace_of, start,
 use Rattle.rv_back.specs.Code.{prologue, action_code, soft_code}
 use Rattle.rv_back.proofs.Lengths.{program_short}
 use Rattle.rv_back.proofs.Steps.{HasAt, has_front, has_back, IsShort, Leads, page_of, line_moves, moves_on, step_is, page_after-sum, page_stays}
-use Rattle.rv_back.proofs.AreWords.{WroteWords}
+use Rattle.pld_ast.specs.AreWords.{WroteWords}
 use Rattle.rv_back.proofs.Frames.{past, past2, Frame}
 use Rattle.rv_back.proofs.Values.{Ready}
 use Rattle.rv_back.proofs.Runs.{EndsAt, Runs, later}

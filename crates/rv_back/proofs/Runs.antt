@@ -16,7 +16,7 @@ use Rattle.pld_ast.specs.Sound.{IsSound}
 use Rattle.pld_ast.specs.Meaning.{State, Outcome, Goes, Over, then_do, at_zero, turns}
 use Rattle.rv_back.specs.Code.{neg_of, unless, choose_code, repeat_code}
 use Rattle.rv_back.proofs.Steps.{HasAt, has_front, has_back, IsShort, page_of, Leads, line_moves, moves_on, step_is, extended_neg}
-use Rattle.rv_back.proofs.AreWords.{WroteWords}
+use Rattle.pld_ast.specs.AreWords.{WroteWords}
 use Rattle.rv_back.proofs.Frames.{Frame, frame_same}
 use Rattle.rv_back.proofs.Values.{Ready, Evaluates, ready_after}
 

@@ -12,7 +12,7 @@ use Rattle.pld_ast.specs.Sound.{IsSound, IsKnownValue}
 use Rattle.pld_ast.specs.Meaning.{State, binary_of, value_of}
 use Rattle.rv_back.specs.Code.{push, pop, address, op1_code, op2_code, is_short, set_aside, bring_back, value_code}
 use Rattle.rv_back.proofs.Steps.{HasAt, has_front, has_back, IsShort, page_of, Leads, lead_on, lead_with, line_moves, moves_on}
-use Rattle.rv_back.proofs.AreWords.{value_word}
+use Rattle.pld_ast.proofs.WordLaws.{value_word}
 use Rattle.rv_back.proofs.Frames.{Kept, kept_on, Gives, Frame, frame_same, frame_kept}
 use Rattle.rv_back.proofs.Lines.{op1_gives, op2_gives, Pushed, push_line, Popped, pop_line, aside_line, GivesAside, short_line, element_line}
 

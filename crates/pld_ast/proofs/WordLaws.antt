@@ -8,13 +8,14 @@ use Rattle.pld_base.specs.Events.{words_written}
 use Rattle.pld_base.specs.declared.event.Event.{Event}
 use Rattle.pld_base.specs.declared.event.Event.TheVariants.{Read as ReadEvent, Write as WriteEvent}
 use Rattle.pld_base.specs.Lists.{with, port}
-use Rattle.pld_base.specs.Process.{Cut, WritesWords}
+use Rattle.pld_base.specs.Process.{Cut, Inputs, AreWords, WritesWords}
 use Rattle.pld_base.proofs.Events.{words_written-append}
 use Rattle.std.proofs.lemmas.List.Elements.{All-nil, All-cons, All-append, All-head, All-tail}
 use Rattle.pld_base.specs.Words.{IsWord, truth_of, quotient_signed, quotient_unsigned, remainder_signed, remainder_unsigned, shifted_right, shifted_right_signed, size_of, is_same_sign}
 use Rattle.pld_ast.specs.Program.{Action, Skip, Then, Assign, Store, Read, ReadInto, Write, Choose, Repeat, Return, Signed, Unsigned, Operation1, Keep, Negate, Flip, IsZero, Operation2, EitherOf, BothOf, BitOr, BitXor, BitAnd, Equal, Unequal, Less, AtMost, More, AtLeast, ShiftLeft, ShiftRight, Plus, Minus, Times, Quotient, Remainder, Value, Number, Scalar, Element, Op1, Op2, Program}
 use Rattle.pld_ast.specs.Meaning.{State, Outcome, Goes, Over, set_scalar, set_element, take_word, then_do, at_zero, turns, meaning, trace_of, start, trace, is_zero, is_other, either_of, both_of, unary_of, binary_of, index_in, value_of}
 use Rattle.pld_ast.specs.Sound.{IsKnownValue, IsKnown, IsSound}
+use Rattle.pld_ast.specs.AreWords.{WroteWords, StateWords}
 
 is_zero_word : (a : ℕ) → is_zero a < 2 ^ 32
 is_zero_word zero = omega arith
@@ -36,7 +37,7 @@ both_word : (a b : ℕ) → both_of a b < 2 ^ 32
 both_word zero b = omega arith
 both_word (suc a) b = is_other_word b
 
-if_word : (b : Bool) (x y : ℕ) → x < 2 ^ 32 → y < 2 ^ 32 → (if b then x else y) < 2 ^ 32
+pub if_word : (b : Bool) (x y : ℕ) → x < 2 ^ 32 → y < 2 ^ 32 → (if b then x else y) < 2 ^ 32
 if_word true x y h k = h
 if_word false x y h k = k
 
@@ -86,13 +87,13 @@ unsigned_remainder_word : (a b : ℕ) → a < 2 ^ 32 → remainder_unsigned a b 
 unsigned_remainder_word a zero h = h
 unsigned_remainder_word a (suc b) h = mod_word a b h
 
-unary_word : (o : Operation1) (a : ℕ) → a < 2 ^ 32 → unary_of o a < 2 ^ 32
+pub unary_word : (o : Operation1) (a : ℕ) → a < 2 ^ 32 → unary_of o a < 2 ^ 32
 unary_word Keep a h = h
 unary_word Negate a h = modulo_word _
 unary_word Flip a h = xor_lt 32 a (2 ^ 32 - 1) h (omega arith)
 unary_word IsZero a h = is_zero_word a
 
-binary_word : (o : Operation2) (a b : ℕ) → a < 2 ^ 32 → b < 2 ^ 32 → binary_of o a b < 2 ^ 32
+pub binary_word : (o : Operation2) (a b : ℕ) → a < 2 ^ 32 → b < 2 ^ 32 → binary_of o a b < 2 ^ 32
 binary_word EitherOf a b h k = either_word a b
 binary_word BothOf a b h k = both_word a b
 binary_word BitOr a b h k = or_lt 32 a b h k
@@ -118,17 +119,6 @@ binary_word (Quotient Signed) a b h k = quotient_word a b h
 binary_word (Quotient Unsigned) a b h k = unsigned_quotient_word a b h
 binary_word (Remainder Signed) a b h k = remainder_word a b h
 binary_word (Remainder Unsigned) a b h k = unsigned_remainder_word a b h
-
--- whatever is written is a word
-abbrev pub WroteWords : List Event → Type 0
-WroteWords events = (p : ℕ) → All IsWord (words_written events p)
-
--- the variables, the words to read and those that were written
-pub record StateWords (st : State) : Type 0 where
-  pub scalars : (s : ℕ) → IsWord (st.scalars s)
-  pub arrays : (t i : ℕ) → IsWord (st.arrays t i)
-  pub left : (p : ℕ) → All IsWord (st.left p)
-  pub written : WroteWords st.events
 
 pub value_word : (g : Program) (e : Value) (st : State) → IsKnownValue g e → StateWords st → IsWord (value_of g.lengths e st)
 value_word g (Number v) st f w = f
@@ -157,31 +147,44 @@ abbrev OutcomeWords : Outcome → Type 0
 OutcomeWords (Goes st) = StateWords st
 OutcomeWords (Over e events) = WroteWords events
 
-scalar_words : (st : State) (s v : ℕ) → StateWords st → IsWord v → StateWords (set_scalar st s v)
+pub scalar_words : (st : State) (s v : ℕ) → StateWords st → IsWord v → StateWords (set_scalar st s v)
 scalar_words st s v w h = record { scalars = λ u. if_word (nat_eq u s) v (st.scalars u) h (w.scalars u); arrays = w.arrays; left = w.left; written = w.written }
 
-element_words : (st : State) (t i v : ℕ) → StateWords st → IsWord v → StateWords (set_element st t i v)
+pub element_words : (st : State) (t i v : ℕ) → StateWords st → IsWord v → StateWords (set_element st t i v)
 element_words st t i v w h = record { scalars = w.scalars; arrays = λ u j. by u j (nat_eq u t); left = w.left; written = w.written }
   where
     by : (u j : ℕ) (b : Bool) → IsWord ((if b then with (st.arrays t) i v else st.arrays u) j)
     by u j true = if_word (nat_eq j i) v (st.arrays t j) h (w.arrays t j)
     by u j false = w.arrays u j
 
+-- a word that is read
+pub read_word : (st : State) (p v : ℕ) (ws : List ℕ) → StateWords st → All IsWord (v ∷ ws) → StateWords (record st { left = with st.left p ws; events = st.events ++ ReadEvent (port p) v ∷ [] })
+read_word st p v ws w k = record {
+  scalars = w.scalars;
+  arrays = w.arrays;
+  left = λ q. left_words q (nat_eq q p);
+  written = wrote_more st.events (ReadEvent (port p) v) w.written (read_words p v);
+}
+  where
+    left_words : (q : ℕ) (b : Bool) → All IsWord (if b then ws else st.left q)
+    left_words q true = All-tail IsWord v ws k
+    left_words q false = w.left q
+
+-- a word that is written
+pub write_word : (st : State) (p v : ℕ) → StateWords st → IsWord v → StateWords (record st { events = st.events ++ WriteEvent (port p) v ∷ [] })
+write_word st p v w h = record {
+  scalars = w.scalars;
+  arrays = w.arrays;
+  left = w.left;
+  written = wrote_more st.events (WriteEvent (port p) v) w.written (λ q. write_words p v q h);
+}
+
 take_words : (p : ℕ) (st : State) (go : ℕ → State → Outcome) → StateWords st → ((v : ℕ) (next : State) → IsWord v → StateWords next → OutcomeWords (go v next)) → OutcomeWords (take_word p (st.left p) st go)
 take_words p st go w h = by (st.left p) (w.left p)
   where
     by : (ws : List ℕ) → All IsWord ws → OutcomeWords (take_word p ws st go)
     by [] k = w.written
-    by (v ∷ ws) k = h v _ (All-head IsWord v ws k) (record {
-      scalars = w.scalars;
-      arrays = w.arrays;
-      left = λ q. left_words q (nat_eq q p);
-      written = wrote_more st.events (ReadEvent (port p) v) w.written (read_words p v);
-    })
-      where
-        left_words : (q : ℕ) (b : Bool) → All IsWord (if b then ws else st.left q)
-        left_words q true = All-tail IsWord v ws k
-        left_words q false = w.left q
+    by (v ∷ ws) k = h v _ (All-head IsWord v ws k) (read_word st p v ws w k)
 
 then_words : (o : Outcome) (go : State → Outcome) → OutcomeWords o → ((st : State) → StateWords st → OutcomeWords (go st)) → OutcomeWords (then_do o go)
 then_words (Goes st) go w h = h st w
@@ -204,12 +207,7 @@ meaning_words g (Store t i e) n st k w = element_words st t (index_in g.lengths 
 meaning_words g (Read s p) n st k w = take_words p st (λ v next. Goes (set_scalar next s v)) w (λ v next h j. scalar_words next s v j h)
 meaning_words g (ReadInto t i p) n st k w =
     take_words p st (λ v next. Goes (set_element next t (index_in g.lengths t (value_of g.lengths i st)) v)) w (λ v next h j. element_words next t (index_in g.lengths t (value_of g.lengths i st)) v j h)
-meaning_words g (Write p e) n st k w = record {
-  scalars = w.scalars;
-  arrays = w.arrays;
-  left = w.left;
-  written = wrote_more st.events (WriteEvent (port p) (value_of g.lengths e st)) w.written (λ q. write_words p (value_of g.lengths e st) q (value_word g e st k.1 w));
-}
+meaning_words g (Write p e) n st k w = write_word st p (value_of g.lengths e st) w (value_word g e st k.1 w)
 meaning_words g (Choose e a b) n st k w = zero_words (value_of g.lengths e st) (meaning g.lengths b n st) (meaning g.lengths a n st) (meaning_words g b n st k.2 w) (meaning_words g a n st k.1 w)
 meaning_words g (Repeat e a) n st k w = turns_words n (value_of g.lengths e) (meaning g.lengths a n) st (λ s v. meaning_words g a n s k.1 v) w
 meaning_words g Return n st k w = w.written
@@ -218,7 +216,9 @@ traced_words : (o : Outcome) → OutcomeWords o → WroteWords (trace_of o).even
 traced_words (Goes st) w = w.written
 traced_words (Over e events) w = w
 
+pub start_words : (ins : Inputs) → AreWords ins → StateWords (start ins)
+start_words ins words = record { scalars = λ s. omega arith; arrays = λ t i. omega arith; left = words; written = λ q. All-nil IsWord }
+
 -- a program with known names writes words
 pub trace_words : (g : Program) → IsSound g → WritesWords (trace g)
-trace_words g sound ins words n p =
-    traced_words (meaning g.lengths g.body n (start ins)) (meaning_words g g.body n (start ins) sound.known (record { scalars = λ s. omega arith; arrays = λ t i. omega arith; left = words; written = λ q. All-nil IsWord })) p
+trace_words g sound ins words n p = traced_words (meaning g.lengths g.body n (start ins)) (meaning_words g g.body n (start ins) sound.known (start_words ins words)) p
