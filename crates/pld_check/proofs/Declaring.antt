@@ -20,7 +20,7 @@ use Rattle.pld_check.specs.declared.roles.Role.TheVariants as role
 use Rattle.pld_check.specs.Uses.{Mention, port_role, of_port, of_scalar, of_array, declarations, used_as}
 use Rattle.pld_check.specs.Faults.{declares, known_as, times_declared, misuse, if_wrong, use_fault, misused_in, IsRole, Walked, precedes, least, or_else}
 
-by_test : {P : Type 0} → (t : Bool) → (t ≡ true → P) → (t ≡ false → P) → P
+pub by_test : {P : Type 0} → (t : Bool) → (t ≡ true → P) → (t ≡ false → P) → P
 by_test true f g = f refl
 by_test false f g = g refl
 
@@ -36,13 +36,6 @@ known_in_both (d ∷ xs) ys name at =
 pub known_in_three : (xs ys zs : List Mention) (name : List ℕ) (at : Place) → known_as (xs ++ (ys ++ zs)) name at ≡ or_else (known_as xs name at) (or_else (known_as ys name at) (known_as zs name at))
 known_in_three xs ys zs name at = known_in_both xs (ys ++ zs) name at ∙ ap (or_else (known_as xs name at)) (known_in_both ys zs name at)
 
--- the three lists of an operator
-pub known_told : (a b c v r : Option Role) (xs ys zs : List Mention) (name : List ℕ) (at : Place) → a ≡ known_as xs name at → b ≡ known_as ys name at → c ≡ known_as zs name at
-    → v ≡ or_else b c → r ≡ or_else a v → r ≡ known_as (xs ++ (ys ++ zs)) name at
-known_told a b c v r xs ys zs name at e f g h k =
-    k ∙ ap (or_else a) (h ∙ ap (λ x. or_else x c) f ∙ ap (or_else (known_as ys name at)) g) ∙ ap (λ x. or_else x (or_else (known_as ys name at) (known_as zs name at))) e
-    ∙ sym (known_in_three xs ys zs name at)
-
 times_if : (t : Bool) (a b : ℕ) → cond t (suc (a + b)) (a + b) ≡ cond t (suc a) a + b
 times_if true a b = omega arith
 times_if false a b = refl
@@ -51,13 +44,6 @@ pub times_in_both : (xs ys : List Mention) (name : List ℕ) (at : Place) → ti
 times_in_both [] ys name at = omega arith
 times_in_both (d ∷ xs) ys name at =
     ap (λ n. cond (declares name at d) (suc n) n) (times_in_both xs ys name at) ∙ times_if (declares name at d) (times_declared xs name at) (times_declared ys name at)
-
-pub times_told : (a b c r s : ℕ) (xs ys zs : List Mention) (name : List ℕ) (at : Place) → a ≡ min (times_declared xs name at) 2 → b ≡ min (times_declared ys name at) 2 → c ≡ min (times_declared zs name at) 2
-    → s ≡ min (b + c) 2 → r ≡ min (a + s) 2 → r ≡ min (times_declared (xs ++ (ys ++ zs)) name at) 2
-times_told a b c r s xs ys zs name at e f g h k =
-    let m = times_in_both xs (ys ++ zs) name at in
-    let n = times_in_both ys zs name at in
-    omega (arith, e, f, g, h, k, m, n)
 
 -- names in lists
 abbrev Has : List (List ℕ) → List ℕ → Type 0
@@ -178,21 +164,10 @@ used_well op role.Array role.Input name e h = absurd (let no : ⊥ = cc in no)
 used_well op role.Array role.Output name e h = absurd (let no : ⊥ = cc in no)
 used_well op role.Array role.Scalar name e h = absurd (let no : ⊥ = cc in no)
 
-if_known : (op : Operator) (r : Role) (u : Used) (o : Option Role) → known_as (declarations op) u.name u.at ≡ o → IfNone (use_fault o (used_as r u)) (IsRole op r u.name)
+pub if_known : (op : Operator) (r : Role) (u : Used) (o : Option Role) → known_as (declarations op) u.name u.at ≡ o → IfNone (use_fault o (used_as r u)) (IsRole op r u.name)
 if_known op r u None e = tt
 if_known op r u (Some d) e = told (misuse d r) refl
   where
     told : (k : Option FaultKind) → misuse d r ≡ k → IfNone (if_wrong k u.at) (IsRole op r u.name)
     told (Some k) f = tt
     told None f = used_well op d r u.name f (known_role op d u.name u.at e)
-
-one_least : (o : Option SourceFault) → least (cons_option o []) ≡ o
-one_least None = refl
-one_least (Some f) = refl
-
--- a use of a name
-pub use_told : (op : Operator) (r : Role) (u : Used) (found : Option SourceFault) → found ≡ misused_in (declarations op) (used_as r u) → Walked op found (used_as r u ∷ []) (IsRole op r u.name)
-use_told op r u found e = record {
-  first = e ∙ sym (one_least (misused_in (declarations op) (used_as r u)));
-  known = subst (λ x. IfNone x (IsRole op r u.name)) (sym e) (if_known op r u (known_as (declarations op) u.name u.at) refl);
-}

@@ -14,13 +14,7 @@ use Rattle.pld_check.specs.declared.roles.Role.TheVariants as role
 use Rattle.pld_check.specs.Uses.{Mention, declarations}
 use Rattle.pld_check.specs.Faults.{precedes, place_of, first_of, earlier, least, declares, known_as, misuse, if_wrong, use_fault, misused_in}
 use Rattle.pld_check.specs.Firsts.{IsAmong, here, there, NoneBefore, IsFirst, IsDeclared}
-use Rattle.pld_check.proofs.Walks.{not_after, second_first, first_first}
-
-not_itself : (p : Place) → precedes p p ≡ false
-not_itself p = grind (arith, nat_tests)
-
-one_way : (p q : Place) → precedes p q ≡ true → precedes q p ≡ false
-one_way p q e = grind (arith, nat_tests)
+use Rattle.pld_check.proofs.Walks.{not_after, itself, other_way, second_first, first_first}
 
 pub least_none : (fs : List SourceFault) → least fs ≡ None → fs ≡ []
 least_none [] e = refl
@@ -42,12 +36,12 @@ or_default f (Some g) = g
 or_default f None = f
 
 behind : (t : Bool) (f g : SourceFault) (fs : List SourceFault) → precedes (place_of g) (place_of f) ≡ t → IsFirst g fs → IsFirst (first_of f g) (f ∷ fs)
-behind true f g fs e h = moved g (first_of f g) (f ∷ fs) (sym (second_first f g e)) (record { among = there h.among; first = (one_way (place_of g) (place_of f) e, h.first) })
-behind false f g fs e h = moved f (first_of f g) (f ∷ fs) (sym (first_first f g e)) (record { among = here; first = (not_itself (place_of f), none_before f g fs e h.first) })
+behind true f g fs e h = moved g (first_of f g) (f ∷ fs) (sym (second_first f g e)) (record { among = there h.among; first = (other_way (place_of g) (place_of f) e, h.first) })
+behind false f g fs e h = moved f (first_of f g) (f ∷ fs) (sym (first_first f g e)) (record { among = here; first = (itself (place_of f), none_before f g fs e h.first) })
 
 with_rest : (f h : SourceFault) (fs : List SourceFault) (o : Option SourceFault) → least fs ≡ o → ((g : SourceFault) → least fs ≡ Some g → IsFirst g fs) → earlier (Some f) o ≡ Some h → IsFirst h (f ∷ fs)
 with_rest f h fs None e again k =
-    moved f h (f ∷ fs) (ap (or_default f) k) (record { among = here; first = (not_itself (place_of f), subst (NoneBefore f) (sym (least_none fs e)) tt) })
+    moved f h (f ∷ fs) (ap (or_default f) k) (record { among = here; first = (itself (place_of f), subst (NoneBefore f) (sym (least_none fs e)) tt) })
 with_rest f h fs (Some g) e again k = moved (first_of f g) h (f ∷ fs) (ap (or_default f) k) (behind (precedes (place_of g) (place_of f)) f g fs refl (again g e))
 
 pub least_first : (fs : List SourceFault) (f : SourceFault) → least fs ≡ Some f → IsFirst f fs

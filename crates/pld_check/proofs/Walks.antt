@@ -29,7 +29,7 @@ use Rattle.pld_ast.proofs.Views.{value_in-Element, value_in-Unary, value_in-Bina
 use Rattle.pld_check.specs.declared.roles.Role.TheVariants as role
 use Rattle.pld_check.specs.Known.{IsPort, IsScalar, IsArray, IsKnownTarget}
 use Rattle.pld_check.specs.Uses.{Mention, used_as, declarations, value_uses, target_uses, uses, row_uses, block_uses}
-use Rattle.pld_check.specs.Faults.{precedes, place_of, first_of, earlier, least, twice_in, misused_in, first_twice, first_misused, wrong_names, Walked}
+use Rattle.pld_check.specs.Faults.{precedes, place_of, first_of, earlier, least, twice_in, misused_in, first_twice, first_misused, told, wrong_names, Walked}
 
 -- the order of places
 by_test : {P : Type 0} → (t : Bool) → (t ≡ true → P) → (t ≡ false → P) → P
@@ -77,7 +77,7 @@ least-append : (fs gs : List SourceFault) → least (fs ++ gs) ≡ earlier (leas
 least-append [] gs = refl
 least-append (f ∷ fs) gs = ap (earlier (Some f)) (least-append fs gs) ∙ sym (earlier-assoc (Some f) (least fs) (least gs))
 
-least-cons : (o : Option SourceFault) (fs : List SourceFault) → least (cons_option o fs) ≡ earlier o (least fs)
+pub least-cons : (o : Option SourceFault) (fs : List SourceFault) → least (cons_option o fs) ≡ earlier o (least fs)
 least-cons None fs = refl
 least-cons (Some f) fs = refl
 
@@ -125,6 +125,25 @@ append_none : (xs : List Mention) → xs ++ [] ≡ xs
 append_none [] = refl
 append_none (x ∷ xs) = ap (λ ys. x ∷ ys) (append_none xs)
 
+pub itself : (p : Place) → precedes p p ≡ false
+itself p = grind (arith, nat_tests)
+
+pub other_way : (p q : Place) → precedes p q ≡ true → precedes q p ≡ false
+other_way p q e = grind (arith, nat_tests)
+
+-- what stands first once stands first again
+first_again : (f g : SourceFault) (t : Bool) → precedes (place_of g) (place_of f) ≡ t → first_of (first_of f g) f ≡ first_of f g
+first_again f g true e = ap (λ k. first_of k f) (second_first f g e) ∙ first_first g f (other_way (place_of g) (place_of f) e) ∙ sym (second_first f g e)
+first_again f g false e = ap (λ k. first_of k f) (first_first f g e) ∙ first_first f f (itself (place_of f)) ∙ sym (first_first f g e)
+
+earlier_again : (t a : Option SourceFault) → earlier (earlier t a) t ≡ earlier t a
+earlier_again None a = earlier_none a
+earlier_again (Some f) None = ap Some (first_first f f (itself (place_of f)))
+earlier_again (Some f) (Some g) = ap Some (first_again f g (precedes (place_of g) (place_of f)) refl)
+
+earlier_both : (t a b : Option SourceFault) → earlier t (earlier a b) ≡ earlier (earlier t a) (earlier t b)
+earlier_both t a b = sym (sym (earlier-assoc (earlier t a) t b) ∙ ap (λ x. earlier x b) (earlier_again t a) ∙ earlier-assoc t a b)
+
 both_known : (A B : Type 0) (a b : Option SourceFault) → IfNone a A → IfNone b B → IfNone (earlier a b) (A × B)
 both_known A B None None f g = (f, g)
 both_known A B None (Some y) f g = tt
@@ -135,16 +154,26 @@ known_as_well : (A B : Type 0) (o : Option SourceFault) → (A → B) → IfNone
 known_as_well A B None f h = f h
 known_as_well A B (Some x) f h = tt
 
+always : {A : Type 0} (o : Option SourceFault) → A → IfNone o A
+always None a = a
+always (Some x) a = tt
+
 module _ (op : Operator) where
+  told_both : (a b : Option SourceFault) → told op (earlier a b) ≡ earlier (told op a) (told op b)
+  told_both a b = earlier_both (first_twice op (declarations op)) a b
+
   pub both_walked : {A B : Type 0} (a b r : Option SourceFault) (xs ys : List Mention) → r ≡ earlier a b → Walked op a xs A → Walked op b ys B → Walked op r (xs ++ ys) (A × B)
-  both_walked {A} {B} a b r xs ys e f g = record {
-    first = e ∙ ap (λ x. earlier x b) f.first ∙ ap (earlier (first_misused op xs)) g.first ∙ sym (least_over (misused_in (declarations op)) xs ys);
-    known = subst (λ x. IfNone x (A × B)) (sym e) (both_known A B a b f.known g.known);
-  }
+  both_walked {A} {B} a b r xs ys e f g =
+      let apart : told op r ≡ earlier (told op a) (told op b) = ap (told op) e ∙ told_both a b in
+      record {
+        first = apart ∙ ap (λ x. earlier x (told op b)) f.first ∙ ap (earlier (told op (first_misused op xs))) g.first
+            ∙ sym (ap (told op) (least_over (misused_in (declarations op)) xs ys) ∙ told_both (first_misused op xs) (first_misused op ys));
+        known = subst (λ x. IfNone x (A × B)) (sym apart) (both_known A B (told op a) (told op b) f.known g.known);
+      }
 
   -- the same of other names for the uses and the fact
   as_well : {A B : Type 0} (r : Option SourceFault) (xs ys : List Mention) → ys ≡ xs → (A → B) → Walked op r xs A → Walked op r ys B
-  as_well {A} {B} r xs ys e f w = record { first = w.first ∙ ap (first_misused op) (sym e); known = known_as_well A B r f w.known }
+  as_well {A} {B} r xs ys e f w = record { first = w.first ∙ ap (λ x. told op (first_misused op x)) (sym e); known = known_as_well A B (told op r) f w.known }
 
   abbrev pub WalkedValue : Option SourceFault → Expr → Type 0
   WalkedValue r e = Walked op r (value_uses e) (IsKnownValue (program_of op) (value_in (declared_in op) e))
@@ -168,7 +197,7 @@ module _ (op : Operator) where
   of_unary un.Not v h = h
 
   pub at_literal : (r : Option SourceFault) (e : Expr) (v : ℕ) (t : Ty) → e ≡ Lit v t → r ≡ None → IsWord v → WalkedValue r e
-  at_literal r e v t is n w = subst (WalkedValue r) (sym is) (record { first = n; known = subst (λ x. IfNone x (IsWord v)) (sym n) w })
+  at_literal r e v t is n w = subst (WalkedValue r) (sym is) (record { first = ap (told op) n; known = always (told op r) w })
 
   pub at_variable : (r : Option SourceFault) (e : Expr) (u : Used) → e ≡ Var u → Walked op r (used_as role.Scalar u ∷ []) (IsScalar op u.name) → WalkedValue r e
   at_variable r e u is w = subst (WalkedValue r) (sym is) w
@@ -192,6 +221,9 @@ module _ (op : Operator) where
   at_binary r x y e a b got got' o is g g' q v w =
       subst (WalkedValue r) (sym is) (as_well r (value_uses a ++ value_uses b) (value_uses (Binary o a b)) (uses-Binary o a b)
       (λ h. known_value _ _ (value_in-Binary (declared_in op) o a b) h) (both_walked x y r (value_uses a) (value_uses b) q (subst (WalkedValue x) g v) (subst (WalkedValue y) g' w)))
+
+  pub at_indexed : (r x y : Option SourceFault) (t : Target) (u : Used) (i : Expr) → t ≡ target.Element u i → r ≡ earlier x y → Walked op x (used_as role.Array u ∷ []) (IsArray op u.name) → WalkedValue y i → Walked op r (target_uses t) (IsKnownTarget op t)
+  at_indexed r x y t u i is q v w = subst (λ s. Walked op r (target_uses s) (IsKnownTarget op s)) (sym is) (both_walked x y r (used_as role.Array u ∷ []) (value_uses i) q v w)
 
   known_assignment : (t : Target) (e : Expr) → IsKnownTarget op t × IsKnownValue (program_of op) (value_in (declared_in op) e) → IsKnown (program_of op) (assigned (declared_in op) t e)
   known_assignment (target.Scalar u) e h = h
@@ -237,19 +269,17 @@ module _ (op : Operator) where
       (as_well r (block_uses (take i body) ++ uses s) (block_uses (take i body ++ s ∷ [])) (uses_last (take i body) s) (known_last (take i body) s) (both_walked x y r (block_uses (take i body)) (uses s) q v w))
 
   pub none_walked : WalkedBlock None []
-  none_walked = record { first = refl; known = _ }
+  none_walked = record { first = refl; known = always (told op None) _ }
 
-  second_known : (K : Type 0) (a b : Option SourceFault) → IfNone b K → IfNone (earlier a b) K
-  second_known K None b h = h
-  second_known K (Some x) None h = tt
-  second_known K (Some x) (Some y) h = tt
+  whole_told : (r a b : Option SourceFault) → r ≡ earlier a b → a ≡ first_twice op (declarations op) → r ≡ told op b
+  whole_told r a b q f = q ∙ ap (λ x. earlier x b) f
 
   pub whole_first : (r a b : Option SourceFault) (body : List Stmt) → body ≡ op.body → r ≡ earlier a b → a ≡ first_twice op (declarations op) → WalkedBlock b body → r ≡ least (wrong_names op)
   whole_first r a b body e q f w =
-      q ∙ ap (λ x. earlier x b) f ∙ ap (earlier (first_twice op (declarations op))) (w.first ∙ ap (λ x. first_misused op (block_uses x)) e)
+      whole_told r a b q f ∙ w.first ∙ ap (λ x. told op (first_misused op (block_uses x))) e
       ∙ sym (least-append (filter_map (twice_in (declarations op)) (declarations op)) (filter_map (misused_in (declarations op)) (block_uses op.body)))
 
-  pub whole_known : (r a b : Option SourceFault) (body : List Stmt) → body ≡ op.body → r ≡ earlier a b → WalkedBlock b body → IfNone r (IsKnown (program_of op) (program_of op).body)
-  whole_known r a b body e q w =
-      subst (λ x. IfNone x (IsKnown (program_of op) (program_of op).body)) (sym q)
-      (second_known (IsKnown (program_of op) (program_of op).body) a b (subst (λ x. IfNone b (IsKnown (program_of op) (block_in (declared_in op) x))) e w.known))
+  pub whole_known : (r a b : Option SourceFault) (body : List Stmt) → body ≡ op.body → r ≡ earlier a b → a ≡ first_twice op (declarations op) → WalkedBlock b body → IfNone r (IsKnown (program_of op) (program_of op).body)
+  whole_known r a b body e q f w =
+      subst (λ x. IfNone x (IsKnown (program_of op) (program_of op).body)) (sym (whole_told r a b q f))
+      (subst (λ x. IfNone (told op b) (IsKnown (program_of op) (block_in (declared_in op) x))) e w.known)

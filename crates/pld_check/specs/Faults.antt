@@ -106,10 +106,14 @@ first_twice op ds = least (filter_map (twice_in (declarations op)) ds)
 abbrev pub first_misused : Operator → List Mention → Option SourceFault
 first_misused op ms = least (filter_map (misused_in (declarations op)) ms)
 
--- the first wrong use is found; where there is none, this holds
+-- the first second declaration, or what is found where that stands before it
+abbrev pub told : Operator → Option SourceFault → Option SourceFault
+told op found = earlier (first_twice op (declarations op)) found
+
+-- the first wrong use is found, if no second declaration stands before it; where there is none of both, this holds
 pub record Walked (op : Operator) (found : Option SourceFault) (ms : List Mention) (Known : Type 0) : Type 0 where
-  pub first : found ≡ first_misused op ms
-  pub known : IfNone found Known
+  pub first : told op found ≡ told op (first_misused op ms)
+  pub known : IfNone (told op found) Known
 
 -- there is a name of this role
 abbrev pub IsRole : Operator → Role → List ℕ → Type 0

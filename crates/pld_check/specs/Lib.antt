@@ -3,3 +3,4 @@ pub mod Firsts
 pub mod Known
 pub mod Tested
 pub mod Uses
+pub mod Scopes

@@ -9,6 +9,7 @@ ghost use Rattle.pld_check.specs.Tested.{is_sound as is_sound_program};
 
 use crate::known::{are_known, both};
 use crate::limits::{MOST_ARRAYS, MOST_NODES, MOST_PORTS, MOST_SCALARS, MOST_WORDS, source_fault};
+use crate::scope::Scoped;
 use pld_ast::{Array, Operator, count_ins, count_outs};
 use pld_base::{NoMemory, Refused, SourceFault};
 use std::alloc::Global;
@@ -180,14 +181,16 @@ impl Checked {
 /// array without one, a port used as a variable or a variable used as a port (`WrongKind`), a read of an out-port or a write to an
 /// in-port (`WrongDirection`). Ports, scalars and arrays share one scope. Where no name is wrong, it is the first limit that is
 /// passed: `TooLarge` of `Nodes` over 1,000 nodes, at the operator's name, of `Scalars` over 64, `Arrays` over 16, `ArrayWords` over
-/// 8,192 in all, `InPorts` over 8, `OutPorts` over 8, at the name of the first declaration that passes it. No memory is taken.
-pub fn check(op: Operator) -> Result<Checked, Refused<SourceFault>>
+/// 8,192 in all, `InPorts` over 8, `OutPorts` over 8, at the name of the first declaration that passes it. No memory is taken: the scope has been made. Works in time linear in the operator.
+pub fn check(op: Scoped) -> Result<Checked, Refused<SourceFault>>
     requires { AreFilled (program_of op).lengths }
     ensures exact { MatchResult result (λ checked. (checked ≡ op) × (check_fault op ≡ None)) (λ refusal. Refuses refusal (check_fault op)) }
     ensures sound { IfOk result (λ _checked. IsSound (program_of op)) }
 {
     match source_fault(&op) {
         Some(fault) => Err(Refused::Fault(fault)),
-        None => Ok(Checked { operator: op }),
+        None => Ok(Checked {
+            operator: op.into_operator(),
+        }),
     }
 }

@@ -7,8 +7,10 @@ mod laws;
 mod limits;
 mod names;
 mod roles;
+mod scope;
 #[cfg(test)]
 mod tests;
 
 pub use checked::{Checked, check};
 pub use laws::first_wrong_names;
+pub use scope::{Declaration, Declared, Scoped};

@@ -7,6 +7,7 @@ ghost use Rattle.pld_check.specs.Known.{AreFilled};
 ghost use Rattle.pld_check.specs.Faults.{passed as passed_of, place_in_text, words_passed as words_passed_of, is_at as is_at_side, ports_passed as ports_passed_of, nodes_passed as nodes_passed_of, or_else, port_limit_fault as port_limit_fault_of, array_limit_fault as array_limit_fault_of, limit_fault as limit_fault_of, check_fault};
 
 use crate::names::{fault_at, wrong_name};
+use crate::scope::Scoped;
 use pld_ast::{Array, Operator, Port, Scalar};
 use pld_base::{FaultKind, Limit, Place, Side, SourceFault};
 
@@ -164,13 +165,13 @@ fn limit_fault(op: &Operator) -> Option<SourceFault>
 }
 
 /// The first wrong name of an operator, and else the first limit that it passes.
-pub fn source_fault(op: &Operator) -> Option<SourceFault>
+pub fn source_fault(op: &Scoped) -> Option<SourceFault>
     requires { AreFilled (program_of op.now).lengths }
     ensures exact { result ≡ check_fault op.now }
     ensures sound { IfNone result (IsSound (program_of op.now)) }
 {
     match wrong_name(op) {
         Some(fault) => Some(fault),
-        None => limit_fault(op),
+        None => limit_fault(op.operator()),
     }
 }

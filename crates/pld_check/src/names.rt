@@ -6,11 +6,12 @@ ghost use Rattle.pld_base.specs.Words.{IsWord};
 ghost use Rattle.pld_ast.specs.Resolve.{value_in, action_in, block_in, declared_in, program_of};
 ghost use Rattle.pld_ast.specs.Sound.{IsKnownValue, IsKnown};
 ghost use Rattle.pld_check.specs.Known.{IsKnownTarget};
-ghost use Rattle.pld_check.specs.Uses.{of_port, of_scalar, of_array, declarations, used_as, value_uses, target_uses, uses, block_uses};
-ghost use Rattle.pld_check.specs.Faults.{fault_at as fault_at_of, twice_at, use_fault as use_fault_of, first_of as first_of_both, earlier as earlier_of, first_twice, first_misused, least, wrong_names, Walked, IsRole};
+ghost use Rattle.pld_check.specs.Uses.{declarations, used_as, value_uses, target_uses, uses, block_uses};
+ghost use Rattle.pld_check.specs.Faults.{fault_at as fault_at_of, twice_at, use_fault as use_fault_of, first_of as first_of_both, earlier as earlier_of, first_twice as first_twice_of, first_misused, least, wrong_names, Walked, IsRole};
 
-use crate::roles::{Role, known_as, misuse, precedes, times};
-use pld_ast::{Array, Expr, Operator, Port, Scalar, Stmt, Target, Used};
+use crate::roles::{Role, misuse, precedes};
+use crate::scope::{Declaration, Scoped};
+use pld_ast::{Expr, Stmt, Target, Used};
 use pld_base::{FaultKind, Name, Place, SourceFault};
 
 /// A fault of this kind at this place.
@@ -57,52 +58,36 @@ fn earlier(a: Option<SourceFault>, b: Option<SourceFault>) -> Option<SourceFault
 }
 
 // NameTwice where the name is declared twice up to this place.
-fn twice(op: &Operator, name: &Name, at: Place) -> Option<SourceFault>
+fn twice(op: &Scoped, name: &Name, at: Place) -> Option<SourceFault>
     ensures { result ≡ twice_at (declarations op.now) name.now at }
 {
-    if times(op, name, at) >= 2 {
+    if op.is_twice(name, at) {
         Some(fault_at(FaultKind::NameTwice, at))
     } else {
         None
     }
 }
 
-fn twice_port(op: &Operator, ports: &[Port]) -> Option<SourceFault>
-    ensures { result ≡ first_twice op.now (map of_port ports.now) }
+// The first of these declarations that is a second one.
+fn first_twice<D: Declaration>(op: &Scoped, declarations: &[D]) -> Option<SourceFault>
+    ensures { result ≡ first_twice_of op.now (map D.mention declarations.now) }
 {
-    match ports {
+    match declarations {
         [] => None,
-        [first, rest @ ..] => earlier(twice(op, &first.name, first.at), twice_port(op, rest)),
-    }
-}
-
-fn twice_scalar(op: &Operator, scalars: &[Scalar]) -> Option<SourceFault>
-    ensures { result ≡ first_twice op.now (map of_scalar scalars.now) }
-{
-    match scalars {
-        [] => None,
-        [first, rest @ ..] => earlier(twice(op, &first.name, first.at), twice_scalar(op, rest)),
-    }
-}
-
-fn twice_array(op: &Operator, arrays: &[Array]) -> Option<SourceFault>
-    ensures { result ≡ first_twice op.now (map of_array arrays.now) }
-{
-    match arrays {
-        [] => None,
-        [first, rest @ ..] => earlier(twice(op, &first.name, first.at), twice_array(op, rest)),
+        [first, rest @ ..] => earlier(twice(op, first.name(), first.at()), first_twice(op, rest)),
     }
 }
 
 // The first declaration of a name that is declared before it.
-fn declared_twice(op: &Operator) -> Option<SourceFault>
-    ensures { result ≡ first_twice op.now (declarations op.now) }
+fn declared_twice(op: &Scoped) -> Option<SourceFault>
+    ensures { result ≡ first_twice_of op.now (declarations op.now) }
 {
+    let operator = op.operator();
     let variables = earlier(
-        twice_scalar(op, op.scalars.as_slice()),
-        twice_array(op, op.arrays.as_slice()),
+        first_twice(op, operator.scalars.as_slice()),
+        first_twice(op, operator.arrays.as_slice()),
     );
-    earlier(twice_port(op, op.ports.as_slice()), variables)
+    earlier(first_twice(op, operator.ports.as_slice()), variables)
 }
 
 // What is wrong with a use of a name that is known as this.
@@ -118,11 +103,11 @@ fn use_fault(known: Option<Role>, role: Role, u: &Used) -> Option<SourceFault>
     }
 }
 
-// What is wrong with a use of a name.
-fn misused(op: &Operator, role: Role, u: &Used) -> Option<SourceFault>
+// What is wrong with a use of a name. Where the name is declared twice up to there, the second declaration is wrong, and stands before.
+fn misused(op: &Scoped, role: Role, u: &Used) -> Option<SourceFault>
     ensures { Walked op.now result (used_as role u.now ∷ []) (IsRole op.now role u.now.name) }
 {
-    use_fault(known_as(op, &u.name, u.at), role, u)
+    use_fault(op.role_at(&u.name, u.at), role, u)
 }
 
 // A number uses no name.
@@ -134,7 +119,7 @@ fn number(_v: u32) -> Option<SourceFault>
 }
 
 // The first wrong name of an expression.
-fn wrong_value(op: &Operator, e: &Expr) -> Option<SourceFault>
+fn wrong_value(op: &Scoped, e: &Expr) -> Option<SourceFault>
     ensures { Walked op.now result (value_uses e.now) (IsKnownValue (program_of op.now) (value_in (declared_in op.now) e.now)) }
 {
     match e {
@@ -148,7 +133,7 @@ fn wrong_value(op: &Operator, e: &Expr) -> Option<SourceFault>
 }
 
 // The first wrong name of a target.
-fn wrong_target(op: &Operator, to: &Target) -> Option<SourceFault>
+fn wrong_target(op: &Scoped, to: &Target) -> Option<SourceFault>
     ensures { Walked op.now result (target_uses to.now) (IsKnownTarget op.now to.now) }
 {
     match to {
@@ -159,7 +144,7 @@ fn wrong_target(op: &Operator, to: &Target) -> Option<SourceFault>
 
 // The first wrong name of a statement.
 #[cycle(wrong)]
-fn wrong_statement(op: &Operator, s: &Stmt) -> Option<SourceFault>
+fn wrong_statement(op: &Scoped, s: &Stmt) -> Option<SourceFault>
     ensures { Walked op.now result (uses s.now) (IsKnown (program_of op.now) (action_in (declared_in op.now) s.now)) }
 {
     match s {
@@ -177,7 +162,7 @@ fn wrong_statement(op: &Operator, s: &Stmt) -> Option<SourceFault>
 
 // The first wrong name of these statements.
 #[cycle(wrong)]
-fn wrong_block(op: &Operator, body: &[Stmt]) -> Option<SourceFault>
+fn wrong_block(op: &Scoped, body: &[Stmt]) -> Option<SourceFault>
     ensures { Walked op.now result (block_uses body.now) (IsKnown (program_of op.now) (block_in (declared_in op.now) body.now)) }
 {
     let mut found = None;
@@ -188,9 +173,12 @@ fn wrong_block(op: &Operator, body: &[Stmt]) -> Option<SourceFault>
 }
 
 /// The first wrong name of an operator.
-pub fn wrong_name(op: &Operator) -> Option<SourceFault>
+pub fn wrong_name(op: &Scoped) -> Option<SourceFault>
     ensures first { result ≡ least (wrong_names op.now) }
     ensures known { IfNone result (IsKnown (program_of op.now) (program_of op.now).body) }
 {
-    earlier(declared_twice(op), wrong_block(op, op.body.as_slice()))
+    earlier(
+        declared_twice(op),
+        wrong_block(op, op.operator().body.as_slice()),
+    )
 }

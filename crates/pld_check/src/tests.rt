@@ -3,6 +3,7 @@
 use crate::check;
 use crate::checked::are_filled;
 use crate::roles::Role;
+use crate::scope::Scoped;
 use pld_ast::{Array, BinOp, Expr, Operator, Port, Scalar, Stmt, Target, Ty, UnOp, Used};
 use pld_base::{FaultKind, Limit, Name, NoMemory, Place, Refused, Side, SourceFault};
 use sqlite_items::{Boxed, Items};
@@ -159,11 +160,11 @@ fn body(alloc: Global, more: &More, uses: &[(Role, u8, u32, u32)]) -> Result<Ite
     Ok(body)
 }
 
-fn fault_of(op: Operator) -> Result<Option<SourceFault>, Fail> {
+fn fault_of(alloc: Global, op: Operator) -> Result<Option<SourceFault>, Fail> {
     if !are_filled(op.arrays.as_slice()) {
         return Err("an empty array".into());
     }
-    match check(op) {
+    match check(Scoped::of(alloc, op)?) {
         Ok(_) => Ok(None),
         Err(Refused::Fault(fault)) => Ok(Some(fault)),
         Err(Refused::NoMemory) => Err("no memory".into()),
@@ -185,7 +186,7 @@ fn told(
         arrays: arrays(alloc, more)?,
         body: body(alloc, more, uses)?,
     };
-    fault_of(op)
+    fault_of(alloc, op)
 }
 
 #[test]

@@ -99,8 +99,14 @@ reading_faulty text f e = subst (Said text) e (reading_said text)
 
 -- ---- what the parts of the reader answer
 
+pub checked_so : (op scoped : Operator) → scoped ≡ op → (r : Result Operator (Refused SourceFault)) → MatchResult r (λ checked. (checked ≡ scoped) × (check_fault scoped ≡ None)) (λ e. Refuses e (check_fault scoped))
+    → MatchResult r (λ checked. (checked ≡ op) × (check_fault op ≡ None)) (λ e. IfFault e (λ f. check_fault op ≡ Some f))
+checked_so op scoped is (Ok checked) h = (h.0 ∙ is, ap check_fault (sym is) ∙ h.1)
+checked_so op scoped is (Err (Fault f)) h = ap check_fault (sym is) ∙ h
+checked_so op scoped is (Err NoMemory) h = absurd h
+
 pub checked_read : (text : List ℕ) (ts : List Token) (op : Operator) → lexed text ≡ Ok ts → Syntax (symbols ts) op → IsNarrow 32 0 (symbols ts) → (r : Result Operator (Refused SourceFault))
-    → MatchResult r (λ checked. (checked ≡ op) × (check_fault op ≡ None)) (λ e. Refuses e (check_fault op)) → MatchResult r (λ checked. reading text ≡ Reads checked) (λ e. IfFault e (λ f. reading text ≡ Faulty f))
+    → MatchResult r (λ checked. (checked ≡ op) × (check_fault op ≡ None)) (λ e. IfFault e (λ f. check_fault op ≡ Some f)) → MatchResult r (λ checked. reading text ≡ Reads checked) (λ e. IfFault e (λ f. reading text ≡ Faulty f))
 checked_read text ts op e s w (Ok checked) h = subst (λ x. reading text ≡ Reads x) (sym h.0) (text_read text ts op e s w h.1)
 checked_read text ts op e s w (Err (Fault f)) h = text_misnamed text ts op f e s w h
 checked_read text ts op e s w (Err NoMemory) h = tt

@@ -1,4 +1,4 @@
-use Rattle.pld_check.proofs.Walks.{at_assign, at_read, at_if, at_while, at_next}
+use Rattle.pld_check.proofs.Walks.{at_assign, at_read, at_write, at_if, at_while, at_next}
 use Rattle.pld_check.proofs.names.+wrong.Goals as goal
 
 pub wrong_block-loop-s-preserved : goal.wrong_block-loop-s-preserved
@@ -17,3 +17,6 @@ wrong_statement-returns-in-If t c = at_if c.args.op.now _ _ _ _ _ c.args.s.now _
 
 pub wrong_statement-returns-in-While : goal.wrong_statement-returns-in-While
 wrong_statement-returns-in-While t c = at_while c.args.op.now _ _ _ c.args.s.now _ _ _ c.in-While.is c.as_slice-in-While.ensures c.earlier-in-While.ensures c.wrong_value-in-While.ensures c.wrong_block-in-While.ensures
+
+pub wrong_statement-returns-in-Write : goal.wrong_statement-returns-in-Write
+wrong_statement-returns-in-Write t c = at_write c.args.op.now _ _ _ c.args.s.now c.in-Write.port c.in-Write.e c.in-Write.is c.earlier-in-Write.ensures c.misused-in-Write.ensures c.wrong_value-in-Write.ensures
