@@ -1,2 +1,1 @@
-pub mod Assembly
 pub mod Listing

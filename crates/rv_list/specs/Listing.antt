@@ -6,7 +6,8 @@ use Rattle.hex.specs.declared.error.FromHexError.{FromHexError}
 use Rattle.bstr.specs.Text.{lines_of, without_terminator}
 use Rattle.rv_isa.specs.Reading.{decoded}
 use Rattle.rv_isa.specs.declared.instr.Instr.{Instr}
-use Rattle.rv_list.specs.Assembly.{text_of}
+use Rattle.rv_text.specs.Texts.{text_of}
+use Rattle.rv_text.specs.declared.text.Style.TheVariants.{Dump}
 use Rattle.rv_list.specs.declared.line.Line.{Line}
 use Rattle.rv_list.specs.declared.line.Line.TheVariants.{Instruction, OtherWord, NoWord}
 
@@ -33,7 +34,7 @@ line_in line = line_by (word_in line)
 
 -- what is printed of it
 abbrev pub shown : Line → List ℕ
-shown (Instruction i) = text_of i
+shown (Instruction i) = text_of Dump i
 shown OtherWord = codes "-"
 shown NoWord = codes "?"
 

@@ -3,10 +3,10 @@
 ghost use Rattle.std.specs.Prelude.{◌≡◌, Some, IfOk, string_bytes};
 ghost use Rattle.rv_list.specs.Listing.{word_in, line_in, shown, listing};
 
-use crate::assembly::Assembly;
 use bstr::ByteSlice;
 use hex::FromHex;
 use rv_isa::{Instr, decode};
+use rv_text::{Style, Text};
 use std::alloc::{AllocError, Global};
 use std::fmt;
 use std::fmt::Write;
@@ -42,7 +42,11 @@ impl fmt::Display for Line {
 
     fn fmt<W: fmt::Write>(&self, f: &mut fmt::Formatter<W>) -> fmt::Result {
         match self {
-            Line::Instruction(i) => Assembly(*i).fmt(f),
+            Line::Instruction(i) => Text {
+                style: Style::Dump,
+                instr: *i,
+            }
+            .fmt(f),
             Line::OtherWord => write!(f, "-"),
             Line::NoWord => write!(f, "?"),
         }

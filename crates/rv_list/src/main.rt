@@ -9,7 +9,6 @@ use std::alloc::Global;
 use std::io;
 use std::io::{Read, Write};
 
-mod assembly;
 mod line;
 
 /// Reads a text to its end, and writes the answers to its lines.
