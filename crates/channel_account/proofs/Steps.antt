@@ -11,14 +11,14 @@ use Rattle.leaf_port.specs.declared.ports.Waiting.{Waiting}
 use Rattle.leaf_port.specs.Ports.{credited as credited_in}
 use Rattle.leaf_port.specs.Leaf.{out_port, in_port, delivered, CanArrive, boxed}
 use Rattle.leaf_port.proofs.Keeps.{boxed-cons}
-use Rattle.channel_account.specs.Account.{Numbered, SameItems, in_slots, IsAccount, moved}
+use Rattle.channel_account.specs.Account.{Numbered, SameItems, in_slots, IsAccount}
 use Rattle.channel_account.proofs.Counts.{one, count-append, count-cons}
-use Rattle.channel_account.proofs.Moves.{wrote_keeps, took_keeps, moved_keeps, arrived_keeps, returned_keeps, credited_keeps, MayArrive, may_arrive, credit_fits}
-use Rattle.network_account.specs.Network.{Node, Net, Ends, OutHalf, InHalf, out_half, in_half, joined, channel, IsLink, SamePackets, data_packet, credit_packet, put, row_to, node_wrote, node_took, with_leaf, words_of, words_for, credits_for, packet_words, packet_credits}
-use Rattle.network_account.proofs.Halves.{same_true, true_same, false_other, wrote_out, wrote_out_other, wrote_in, took_in, took_in_other, took_out, out_written, in_taken, in_arrived, data_in, data_in_other, out_credited, credit_out, credit_out_other, out_sent, sent_out, sent_out_other, in_returned, returned_in, returned_in_other}
+use Rattle.channel_account.proofs.Channels.{moved, wrote_keeps, took_keeps, moved_keeps, arrived_keeps, returned_keeps, credited_keeps, MayArrive, may_arrive, credit_fits}
+use Rattle.channel_account.specs.Network.{Rows, Node, Net, Ends, OutHalf, InHalf, out_half, in_half, joined, channel, IsLink, SamePackets, data_packet, credit_packet, put, row_to, node_wrote, node_took, with_leaf, words_of, words_for, credits_for, packet_words, packet_credits}
+use Rattle.channel_account.proofs.Halves.{same_true, true_same, false_other, wrote_out, wrote_out_other, wrote_in, took_in, took_in_other, took_out, out_written, in_taken, in_arrived, data_in, data_in_other, out_credited, credit_out, credit_out_other, out_sent, sent_out, sent_out_other, in_returned, returned_in, returned_in_other}
 
 -- the account of each channel
-abbrev pub Balanced : ℕ → (ℕ → ℕ → Option Row) → Net → Type 0
+abbrev pub Balanced : ℕ → Rows → Net → Type 0
 Balanced window tables n = (e : Ends) → IsLink tables e → IsAccount window (channel n e)
 
 -- what is counted of the words under way
@@ -54,7 +54,7 @@ under_keeps window o i w v r s same e a =
     }
 
 -- packets change their places
-pub permute_keeps : (window : ℕ) (tables : ℕ → ℕ → Option Row) (n : Net) (under : List Packet) → SamePackets under n.under → Balanced window tables n → Balanced window tables (record n { under = under })
+pub permute_keeps : (window : ℕ) (tables : Rows) (n : Net) (under : List Packet) → SamePackets under n.under → Balanced window tables n → Balanced window tables (record n { under = under })
 permute_keeps window tables n under same a e link =
     under_keeps window (out_half (n.nodes e.from) e.out) (in_half (n.nodes e.to) e.inn) _ _ _ _ (words_same e.to e.inn under n.under same) (credits_same e.from e.out under n.under same) (a e link)
 
@@ -111,7 +111,7 @@ halves window o o' i i' w r p q a =
     subst (λ (x : OutHalf). IsAccount window (joined x i' w r)) (sym p) (subst (λ (x : InHalf). IsAccount window (joined o x w r)) (sym q) a)
 
 -- a write
-pub write_keeps : (window : ℕ) (tables : ℕ → ℕ → Option Row) (n : Net) (leaf k w : ℕ) → k < length (n.nodes leaf).leaf.outs → 0 < (out_port (n.nodes leaf).leaf k).credits → ((e : Ends) → IsLink tables e → (n.nodes e.from).leaf.window ≡ window) → Balanced window tables n → Balanced window tables (record n { nodes = put n.nodes leaf (node_wrote k w (n.nodes leaf)) })
+pub write_keeps : (window : ℕ) (tables : Rows) (n : Net) (leaf k w : ℕ) → k < length (n.nodes leaf).leaf.outs → 0 < (out_port (n.nodes leaf).leaf k).credits → ((e : Ends) → IsLink tables e → (n.nodes e.from).leaf.window ≡ window) → Balanced window tables n → Balanced window tables (record n { nodes = put n.nodes leaf (node_wrote k w (n.nodes leaf)) })
 write_keeps window tables n leaf k w l credit wn a e link =
     let wire : List Numbered = words_for e.to e.inn n.under in
     let ret : List ℕ = credits_for e.from e.out n.under in
@@ -126,7 +126,7 @@ write_keeps window tables n leaf k w l credit wn a e link =
     ]
 
 -- a read
-pub read_keeps : (window : ℕ) (tables : ℕ → ℕ → Option Row) (n : Net) (leaf j w : ℕ) → j < length (n.nodes leaf).leaf.ins → slice_index_or (in_port (n.nodes leaf).leaf j).slots (in_port (n.nodes leaf).leaf j).next None ≡ Some w → ((e : Ends) → IsLink tables e → (n.nodes e.to).leaf.window ≡ window) → Balanced window tables n → Balanced window tables (record n { nodes = put n.nodes leaf (node_took j w (n.nodes leaf)) })
+pub read_keeps : (window : ℕ) (tables : Rows) (n : Net) (leaf j w : ℕ) → j < length (n.nodes leaf).leaf.ins → slice_index_or (in_port (n.nodes leaf).leaf j).slots (in_port (n.nodes leaf).leaf j).next None ≡ Some w → ((e : Ends) → IsLink tables e → (n.nodes e.to).leaf.window ≡ window) → Balanced window tables n → Balanced window tables (record n { nodes = put n.nodes leaf (node_took j w (n.nodes leaf)) })
 read_keeps window tables n leaf j w l word wn a e link =
     let wire : List Numbered = words_for e.to e.inn n.under in
     let ret : List ℕ = credits_for e.from e.out n.under in
@@ -179,7 +179,7 @@ credit_no_words : (m k : ℕ) (stamp : Stamp) (to i count : ℕ) → packet_word
 credit_no_words m k stamp to i count = credit_no_words_at m k stamp to i count (to == m) refl
 
 -- a word arrives at its leaf
-pub data_keeps : (window : ℕ) (tables : ℕ → ℕ → Option Row) (n : Net) (leaf j number word : ℕ) (stamp : Stamp) (rest : List Packet) → j < length (n.nodes leaf).leaf.ins → SamePackets n.under (data_packet stamp leaf j number word ∷ rest) → Balanced window tables n → Balanced window tables (record { nodes = put n.nodes leaf (with_leaf (n.nodes leaf) (delivered (n.nodes leaf).leaf (Data (record { 0 = j }) number word))); under = rest })
+pub data_keeps : (window : ℕ) (tables : Rows) (n : Net) (leaf j number word : ℕ) (stamp : Stamp) (rest : List Packet) → j < length (n.nodes leaf).leaf.ins → SamePackets n.under (data_packet stamp leaf j number word ∷ rest) → Balanced window tables n → Balanced window tables (record { nodes = put n.nodes leaf (with_leaf (n.nodes leaf) (delivered (n.nodes leaf).leaf (Data (record { 0 = j }) number word))); under = rest })
 data_keeps window tables n leaf j number word stamp rest l same a e link =
     let p : Packet = data_packet stamp leaf j number word in
     let nd : Node = with_leaf (n.nodes leaf) (delivered (n.nodes leaf).leaf (Data (record { 0 = j }) number word)) in
@@ -201,7 +201,7 @@ data_keeps window tables n leaf j number word stamp rest l same a e link =
     ]
 
 -- a credit arrives at its leaf
-pub credit_keeps : (window : ℕ) (tables : ℕ → ℕ → Option Row) (n : Net) (leaf k count : ℕ) (stamp : Stamp) (rest : List Packet) → k < length (n.nodes leaf).leaf.outs → SamePackets n.under (credit_packet stamp leaf k count ∷ rest) → Balanced window tables n → Balanced window tables (record { nodes = put n.nodes leaf (with_leaf (n.nodes leaf) (delivered (n.nodes leaf).leaf (Credit (record { 0 = k }) count))); under = rest })
+pub credit_keeps : (window : ℕ) (tables : Rows) (n : Net) (leaf k count : ℕ) (stamp : Stamp) (rest : List Packet) → k < length (n.nodes leaf).leaf.outs → SamePackets n.under (credit_packet stamp leaf k count ∷ rest) → Balanced window tables n → Balanced window tables (record { nodes = put n.nodes leaf (with_leaf (n.nodes leaf) (delivered (n.nodes leaf).leaf (Credit (record { 0 = k }) count))); under = rest })
 credit_keeps window tables n leaf k count stamp rest l same a e link =
     let p : Packet = credit_packet stamp leaf k count in
     let nd : Node = with_leaf (n.nodes leaf) (delivered (n.nodes leaf).leaf (Credit (record { 0 = k }) count)) in
@@ -237,18 +237,18 @@ row_port : (a b c d : ℕ) (o : Option Row) → o ≡ row_to a b → o ≡ row_t
 row_port a b c d o e f = ap port_of (sym e ∙ f)
 
 -- the same end has the same other end
-pub same_to : (tables : ℕ → ℕ → Option Row) (e g : Ends) → IsLink tables e → IsLink tables g → e.from ≡ g.from → e.out ≡ g.out → (e.to ≡ g.to) × (e.inn ≡ g.inn)
+pub same_to : (tables : Rows) (e g : Ends) → IsLink tables e → IsLink tables g → e.from ≡ g.from → e.out ≡ g.out → (e.to ≡ g.to) × (e.inn ≡ g.inn)
 same_to tables e g l m p q =
     let h : tables e.from e.out ≡ row_to g.to g.inn = ap (λ (x : ℕ). tables x e.out) p ∙ (ap (λ (x : ℕ). tables g.from x) q ∙ m.from_row) in
     (row_leaf e.to e.inn g.to g.inn (tables e.from e.out) l.from_row h, row_port e.to e.inn g.to g.inn (tables e.from e.out) l.from_row h)
 
-pub same_from : (tables : ℕ → ℕ → Option Row) (e g : Ends) → IsLink tables e → IsLink tables g → e.to ≡ g.to → e.inn ≡ g.inn → (e.from ≡ g.from) × (e.out ≡ g.out)
+pub same_from : (tables : Rows) (e g : Ends) → IsLink tables e → IsLink tables g → e.to ≡ g.to → e.inn ≡ g.inn → (e.from ≡ g.from) × (e.out ≡ g.out)
 same_from tables e g l m p q =
     let h : tables e.to (8 + e.inn) ≡ row_to g.from g.out = ap (λ (x : ℕ). tables x (8 + e.inn)) p ∙ (ap (λ (x : ℕ). tables g.to (8 + x)) q ∙ m.to_row) in
     (row_leaf e.from e.out g.from g.out (tables e.to (8 + e.inn)) l.to_row h, row_port e.from e.out g.from g.out (tables e.to (8 + e.inn)) l.to_row h)
 
 -- the head of an outbox is offered
-pub offer_word_keeps : (window : ℕ) (tables : ℕ → ℕ → Option Row) (n : Net) (leaf m j : ℕ) (x : Waiting) (ws : List Waiting) (stamp : Stamp) → IsLink tables (record { from = leaf; out = x.port; to = m; inn = j }) → (n.nodes leaf).leaf.box ≡ x ∷ ws → Balanced window tables n → Balanced window tables (record { nodes = put n.nodes leaf (with_leaf (n.nodes leaf) (record (n.nodes leaf).leaf { box = ws })); under = data_packet stamp m j x.number x.word ∷ n.under })
+pub offer_word_keeps : (window : ℕ) (tables : Rows) (n : Net) (leaf m j : ℕ) (x : Waiting) (ws : List Waiting) (stamp : Stamp) → IsLink tables (record { from = leaf; out = x.port; to = m; inn = j }) → (n.nodes leaf).leaf.box ≡ x ∷ ws → Balanced window tables n → Balanced window tables (record { nodes = put n.nodes leaf (with_leaf (n.nodes leaf) (record (n.nodes leaf).leaf { box = ws })); under = data_packet stamp m j x.number x.word ∷ n.under })
 offer_word_keeps window tables n leaf m j x ws stamp lk box a e link =
     let g : Ends = record { from = leaf; out = x.port; to = m; inn = j } in
     let p : Packet = data_packet stamp m j x.number x.word in
@@ -274,7 +274,7 @@ offer_word_keeps window tables n leaf m j x ws stamp lk box a e link =
     ]
 
 -- freed room is offered
-pub offer_credit_keeps : (window : ℕ) (tables : ℕ → ℕ → Option Row) (n : Net) (leaf m k j : ℕ) (stamp : Stamp) → j < length (n.nodes leaf).leaf.ins → IsLink tables (record { from = m; out = k; to = leaf; inn = j }) → Balanced window tables n → Balanced window tables (record { nodes = put n.nodes leaf (with_leaf (n.nodes leaf) (record (n.nodes leaf).leaf { ins = slice_set (n.nodes leaf).leaf.ins j (credited_in (in_port (n.nodes leaf).leaf j)) })); under = credit_packet stamp m k (in_port (n.nodes leaf).leaf j).freed ∷ n.under })
+pub offer_credit_keeps : (window : ℕ) (tables : Rows) (n : Net) (leaf m k j : ℕ) (stamp : Stamp) → j < length (n.nodes leaf).leaf.ins → IsLink tables (record { from = m; out = k; to = leaf; inn = j }) → Balanced window tables n → Balanced window tables (record { nodes = put n.nodes leaf (with_leaf (n.nodes leaf) (record (n.nodes leaf).leaf { ins = slice_set (n.nodes leaf).leaf.ins j (credited_in (in_port (n.nodes leaf).leaf j)) })); under = credit_packet stamp m k (in_port (n.nodes leaf).leaf j).freed ∷ n.under })
 offer_credit_keeps window tables n leaf m k j stamp l lk a e link =
     let g : Ends = record { from = m; out = k; to = leaf; inn = j } in
     let count : ℕ = (in_port (n.nodes leaf).leaf j).freed in
@@ -309,7 +309,7 @@ length-in_slots [] n = refl
 length-in_slots (o ∷ os) n = length-in_slots_at o os n (length-in_slots os (n + 1))
 
 -- a word that is under way may arrive: what `Leaf::accept` asks
-pub data_may : (window : ℕ) (tables : ℕ → ℕ → Option Row) (n : Net) (e : Ends) (number word : ℕ) (stamp : Stamp) (rest : List Packet) → IsLink tables e → (n.nodes e.to).leaf.window ≡ window → Balanced window tables n → SamePackets n.under (data_packet stamp e.to e.inn number word ∷ rest) → CanArrive (n.nodes e.to).leaf (Data (record { 0 = e.inn }) number word)
+pub data_may : (window : ℕ) (tables : Rows) (n : Net) (e : Ends) (number word : ℕ) (stamp : Stamp) (rest : List Packet) → IsLink tables e → (n.nodes e.to).leaf.window ≡ window → Balanced window tables n → SamePackets n.under (data_packet stamp e.to e.inn number word ∷ rest) → CanArrive (n.nodes e.to).leaf (Data (record { 0 = e.inn }) number word)
 data_may window tables n e number word stamp rest link wn a same =
     let p : Packet = data_packet stamp e.to e.inn number word in
     let w : SameItems (words_for e.to e.inn n.under) (words_for e.to e.inn (p ∷ rest)) = words_same e.to e.inn n.under (p ∷ rest) same in
@@ -333,7 +333,7 @@ length-words k [] = refl
 length-words k (w ∷ ws) = length-words_at k w ws (w.port == k) refl (length-words k ws)
 
 -- a credit that is under way may arrive
-pub credit_may : (window : ℕ) (tables : ℕ → ℕ → Option Row) (n : Net) (e : Ends) (count : ℕ) (stamp : Stamp) (rest : List Packet) → IsLink tables e → (n.nodes e.from).leaf.window ≡ window → Balanced window tables n → SamePackets n.under (credit_packet stamp e.from e.out count ∷ rest) → CanArrive (n.nodes e.from).leaf (Credit (record { 0 = e.out }) count)
+pub credit_may : (window : ℕ) (tables : Rows) (n : Net) (e : Ends) (count : ℕ) (stamp : Stamp) (rest : List Packet) → IsLink tables e → (n.nodes e.from).leaf.window ≡ window → Balanced window tables n → SamePackets n.under (credit_packet stamp e.from e.out count ∷ rest) → CanArrive (n.nodes e.from).leaf (Credit (record { 0 = e.out }) count)
 credit_may window tables n e count stamp rest link wn a same =
     let p : Packet = credit_packet stamp e.from e.out count in
     let c : sum (credits_for e.from e.out n.under) ≡ sum (credits_for e.from e.out (p ∷ rest)) = credits_same e.from e.out n.under (p ∷ rest) same in

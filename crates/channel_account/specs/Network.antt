@@ -12,6 +12,10 @@ use Rattle.leaf_port.specs.Ports.{fresh_in}
 use Rattle.leaf_port.specs.Leaf.{LeafState, row_of, out_port, in_port, fresh_out, wrote, took}
 use Rattle.channel_account.specs.Account.{Numbered, Channel, IsAccount}
 
+-- for each leaf and slot, the other end of the slot's channel, if it has one
+abbrev pub Rows : Type 0
+Rows = ℕ → ℕ → Option Row
+
 -- a leaf, and the words that were written and read at each of its ports
 pub record Node : Type 0 where
   pub leaf : LeafState
@@ -106,7 +110,7 @@ abbrev pub row_to : ℕ → ℕ → Option Row
 row_to leaf port = Some (record { leaf = record { 0 = leaf }; port = record { 0 = port } })
 
 -- the tables have this channel, at both of its ends
-pub record IsLink (tables : ℕ → ℕ → Option Row) (e : Ends) : Type 0 where
+pub record IsLink (tables : Rows) (e : Ends) : Type 0 where
   pub out : e.out < 8
   pub inn : e.inn < 8
   pub from_row : tables e.from e.out ≡ row_to e.to e.inn
@@ -119,7 +123,7 @@ pub record IsChannel (window : ℕ) (n : Net) (e : Ends) : Type 0 where
   pub account : IsAccount window (channel n e)
 
 -- each channel of the tables is so
-abbrev pub Accounted : ℕ → (ℕ → ℕ → Option Row) → Net → Type 0
+abbrev pub Accounted : ℕ → Rows → Net → Type 0
 Accounted window tables n = (e : Ends) → IsLink tables e → IsChannel window n e
 
 -- one leaf is changed
@@ -151,7 +155,7 @@ abbrev pub credit_packet : Stamp → ℕ → ℕ → ℕ → Packet
 credit_packet stamp to i count = record { stamp = stamp; to = record { 0 = to }; body = Credit (record { 0 = i }) count }
 
 -- each word that waits at a leaf, and each in-port with freed room, has a channel of the tables
-pub record IsLinked (tables : ℕ → ℕ → Option Row) (leaf : ℕ) (s : LeafState) : Type 0 where
+pub record IsLinked (tables : Rows) (leaf : ℕ) (s : LeafState) : Type 0 where
   pub waiting : (i : ℕ) (w : Waiting) (r : Row) → slice_get s.box i ≡ Some w → row_of s w.port ≡ Some r → IsLink tables (record { from = leaf; out = w.port; to = r.leaf.0; inn = r.port.0 })
   pub owed : (j : ℕ) (r : Row) → j < 8 → 0 < (in_port s j).freed → row_of s (8 + j) ≡ Some r → IsLink tables (record { from = r.leaf.0; out = r.port.0; to = leaf; inn = j })
 

@@ -10,7 +10,7 @@ use Rattle.leaf_port.specs.Leaf.{out_port, in_port, wrote, took, delivered}
 use Rattle.pld_base.specs.declared.event.PortNo.{PortNo}
 use Rattle.net_switch.specs.declared.packet.Body.TheVariants.{Data, Credit}
 use Rattle.channel_account.specs.Account.{Numbered}
-use Rattle.network_account.specs.Network.{Node, OutHalf, InHalf, out_half, in_half, words_of, node_wrote, node_took, with_leaf}
+use Rattle.channel_account.specs.Network.{Node, OutHalf, InHalf, out_half, in_half, words_of, node_wrote, node_took, with_leaf}
 
 pub same_true : (a b : ℕ) → a ≡ b → (a == b) ≡ true
 same_true a b e = grind (arith, nat_tests)
