@@ -1,6 +1,6 @@
 -- Each move of one channel keeps its account, and what may arrive is allowed.
-use Rattle.std.proofs.Common.{◌≡◌, ℕ, zero, suc, ◌+◌, ◌-◌, ◌*◌, ◌/◌, ◌%◌, ◌<◌, ◌≤◌, ◌≢◌, ◌&&◌, Bool, true, false, cond, List, [], ◌∷◌, ◌++◌, length, get_or, set, refl, ap, sym, ◌∙◌, arith, Option, Some, None, inl, inr, length-set, length-append, subst, append_assoc, sum, is_some}
-use Rattle.std.specs.Prelude.{slice_index_or, slice_set, ◌==◌, ◌⊎◌, nat_lt, nat_le}
+use Rattle.std.proofs.Common.{◌≡◌, ℕ, ◌+◌, ◌-◌, ◌%◌, ◌<◌, ◌≤◌, ◌&&◌, Bool, true, false, cond, List, [], ◌∷◌, ◌++◌, length, refl, ap, sym, ◌∙◌, arith, Option, Some, None, length-set, length-append, append_assoc, sum}
+use Rattle.std.specs.Prelude.{slice_index_or, slice_set, ◌==◌, nat_le}
 use Rattle.std.specs.List.{sum_by}
 use Rattle.std.proofs.lemmas.Bool.Decides.{nat_tests}
 use Rattle.channel_account.specs.Account.{Numbered, SameItems, numbered, in_slots, Channel, IsAccount}

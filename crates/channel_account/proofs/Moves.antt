@@ -1,5 +1,5 @@
 -- The moves of leaves keep the accounts.
-use Rattle.std.proofs.Common.{◌≡◌, ℕ, zero, suc, ◌+◌, ◌*◌, ◌%◌, ◌<◌, ◌≤◌, Bool, true, false, List, [], ◌∷◌, ◌++◌, length, sum, replicate, refl, ap, sym, ◌∙◌, arith, Option, Some, None, subst}
+use Rattle.std.proofs.Common.{◌≡◌, ℕ, zero, suc, ◌+◌, ◌*◌, ◌%◌, ◌<◌, Bool, true, false, List, [], ◌∷◌, ◌++◌, length, sum, replicate, refl, ap, sym, ◌∙◌, arith, Option, Some, None, subst}
 use Rattle.std.specs.Prelude.{slice_index_or, slice_get, if◌then◌else◌, ◌==◌, IsSome}
 use Rattle.std.specs.List.{sum_by}
 use Rattle.std.proofs.lemmas.Bool.Decides.{nat_tests}
