@@ -1,5 +1,5 @@
 -- One channel: what its two ends and the packets between them hold, and what was written to it and read from it.
-use Rattle.std.specs.Prelude.{◌≡◌, ℕ, zero, suc, ◌+◌, ◌-◌, ◌%◌, ◌<◌, ◌≤◌, List, [], ◌∷◌, ◌++◌, length, sum, Option, Some, None, slice_set, slice_index_or}
+use Rattle.std.specs.Prelude.{◌≡◌, ℕ, ◌+◌, ◌%◌, ◌<◌, List, [], ◌∷◌, ◌++◌, length, sum, Option, Some, None}
 use Rattle.std.specs.List.{sum_by}
 
 -- the same items, in some order: whatever they weigh, both lists weigh as much
@@ -48,42 +48,3 @@ pub record IsAccount (window : ℕ) (c : Channel) : Type 0 where
   pub in_next : c.in_next ≡ length c.read % window
   pub slots : length c.slots ≡ window
   pub some : 0 < window
-
--- a channel as a run begins
-abbrev pub empty_slots : ℕ → List (Option ℕ)
-empty_slots zero = []
-empty_slots (suc n) = None ∷ empty_slots n
-
--- a write
-abbrev pub wrote : ℕ → ℕ → Channel → Channel
-wrote window w c = record c {
-  credits = c.credits - 1;
-  out_next = (c.out_next + 1) % window;
-  box = c.box ++ (c.out_next, w) ∷ [];
-  written = c.written ++ w ∷ [];
-}
-
--- a read of this word
-abbrev pub took : ℕ → ℕ → Channel → Channel
-took window w c = record c {
-  slots = slice_set c.slots c.in_next None;
-  in_next = (c.in_next + 1) % window;
-  freed = c.freed + 1;
-  read = c.read ++ w ∷ [];
-}
-
--- a word arrives, which leaves these others under way
-abbrev pub arrived : Numbered → List Numbered → Channel → Channel
-arrived x others c = record c { wire = others; slots = slice_set c.slots x.0 (Some x.1) }
-
--- words are moved between the outbox and the links
-abbrev pub moved : List Numbered → List Numbered → Channel → Channel
-moved box wire c = record c { box = box; wire = wire }
-
--- the freed room is sent back as a credit
-abbrev pub returned : List ℕ → Channel → Channel
-returned counts c = record c { freed = 0; returning = counts }
-
--- a credit arrives, which leaves these others under way
-abbrev pub credited : ℕ → List ℕ → Channel → Channel
-credited count others c = record c { credits = c.credits + count; returning = others }

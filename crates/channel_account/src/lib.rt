@@ -1,25 +1,20 @@
-//! The account of a channel: credits, credits under way, freed room and unread words add up to the window, and
-//! each written and unread word is in just one of outbox, packet and slot, whatever carries the packets.
+//! The account of all channels of a network, whatever carries their packets and in whatever order these come: of
+//! each channel, credits, credits under way, freed room and unread words add up to the window; each word that is
+//! written and unread is in just one of outbox, packet and slot, under its place modulo the window; and the words
+//! read are the first ones written, in order.
 #![tactic(auto)]
 
-ghost use Rattle.std.specs.Prelude.{◌≡◌, ℕ, ◌+◌, ◌<◌, ◌≤◌, List, [], ◌∷◌, length, sum, Some, None, slice_index_or, replicate};
-ghost use Rattle.std.specs.List.{sum_by};
-ghost use Rattle.channel_account.specs.Account.{Numbered, SameItems, in_slots, Channel, IsAccount, wrote, took, arrived, moved, returned, credited};
+ghost use Rattle.std.specs.Prelude.{ℕ, ◌<◌};
+ghost use Rattle.channel_account.specs.Network.{Rows, Node, Net, Ends, IsLink, Accounted};
+ghost use Rattle.channel_account.specs.Moves.{Move, May, after, AreFresh, nothing_under_way, MayArrive, IsReadInOrder};
 
-/// Each move of a channel keeps the account.
-pub fn keeps()
-    ensures write { (window w : ℕ) (c : Channel) → 0 < c.credits → IsAccount window c → IsAccount window (wrote window w c) }
-    ensures read { (window w : ℕ) (c : Channel) → slice_index_or c.slots c.in_next None ≡ Some w → IsAccount window c → IsAccount window (took window w c) }
-    ensures travel { (window : ℕ) (box wire : List Numbered) (c : Channel) → ((f : Numbered → ℕ) → sum_by f box + sum_by f wire ≡ sum_by f c.box + sum_by f c.wire) → IsAccount window c → IsAccount window (moved box wire c) }
-    ensures arrive { (window : ℕ) (c : Channel) (x : Numbered) (others : List Numbered) → IsAccount window c → SameItems c.wire (x ∷ others) → IsAccount window (arrived x others c) }
-    ensures give_back { (window : ℕ) (c : Channel) (counts : List ℕ) → sum counts ≡ sum c.returning + c.freed → IsAccount window c → IsAccount window (returned counts c) }
-    ensures credit { (window : ℕ) (c : Channel) (count : ℕ) (others : List ℕ) → IsAccount window c → sum c.returning ≡ count + sum others → IsAccount window (credited count others c) }
-{}
-
-/// What is under way may arrive.
-pub fn arrives()
-    ensures number { (window : ℕ) (c : Channel) (x : Numbered) (others : List Numbered) → IsAccount window c → SameItems c.wire (x ∷ others) → x.0 < window }
-    ensures empty { (window : ℕ) (c : Channel) (x : Numbered) (others : List Numbered) → IsAccount window c → SameItems c.wire (x ∷ others) → slice_index_or c.slots x.0 None ≡ None }
-    ensures room { (window : ℕ) (c : Channel) (x : Numbered) (others : List Numbered) → IsAccount window c → SameItems c.wire (x ∷ others) → length (in_slots 0 c.slots) + c.freed < window }
-    ensures credit { (window : ℕ) (c : Channel) (count : ℕ) (others : List ℕ) → IsAccount window c → sum c.returning ≡ count + sum others → count + c.credits + length c.box ≤ window }
+/// The account of each channel holds as a run begins, and each move keeps it: a write where there is a credit, a
+/// read of the next word, a leaf's offer, a packet's arrival, and the way of packets from link to link, which
+/// changes no more than their order. Where it holds, what is under way to an end of a channel may arrive there,
+/// and the words that were read are the first ones that were written, at most a window of them unread.
+pub fn accounts_go_on()
+    ensures begins { (window : ℕ) (tables : Rows) (nodes : ℕ → Node) → 0 < window → AreFresh window tables nodes → Accounted window tables (nothing_under_way nodes) }
+    ensures keeps { (window : ℕ) (tables : Rows) (n : Net) (m : Move) → Accounted window tables n → May tables n m → Accounted window tables (after n m) }
+    ensures arrives { (window : ℕ) (tables : Rows) (n : Net) (e : Ends) → IsLink tables e → Accounted window tables n → MayArrive n e }
+    ensures reads { (window : ℕ) (tables : Rows) (n : Net) (e : Ends) → IsLink tables e → Accounted window tables n → IsReadInOrder window n e }
 {}

@@ -1,3 +1,5 @@
 pub mod Leaf
 pub mod Ports
+pub mod Masks
+pub mod Owed
 pub mod Rows

@@ -4,6 +4,8 @@ ghost use Rattle.std.specs.Prelude.{◌≡◌, ℕ, ◌+◌, ◌-◌, ◌<◌, �
 ghost use Rattle.leaf_port.specs.Ports.{InState, fresh_in};
 ghost use Rattle.leaf_port.specs.Leaf.{LeafState, IsLeaf, fresh, row_of, with_row, can_write, next_word, wrote, took, is_idle, owed_from, delivered, accepted, offered, offer_credit, offer_word, injected, CanArrive};
 
+use crate::masks::Mask;
+use crate::ports::number_after;
 use crate::{ConfigEntry, InPort, OutPort, Waiting};
 use circular_buffer::HeapCircularBuffer;
 use net_switch::{Body, Packet, Row, Stamp};
@@ -24,6 +26,8 @@ pub struct Leaf {
     rows: [Option<Row>; 16],
     outs: [OutPort; 8],
     ins: Vec<InPort>,
+    // the in-ports with freed room
+    owed: Mask,
     outbox: HeapCircularBuffer<Waiting>,
     back: Option<Packet>,
 }
@@ -31,36 +35,26 @@ pub struct Leaf {
 impl Model for Leaf {
     ghost use Rattle.std.specs.Prelude.{◌≡◌, ◌*◌};
     ghost use Rattle.leaf_port.specs.Leaf.{LeafState, IsLeaf};
+    ghost use Rattle.leaf_port.specs.Owed.{AreOwed};
 
     ghost Value = { LeafState };
 
     ghost view = { λ a. record { own = a.own.0; window = a.window; rows = a.rows; outs = a.outs; ins = a.ins.items; box = a.outbox.items; back = a.back } };
 
-    ghost invariant = { λ a. IsLeaf (record { own = a.own.0; window = a.window; rows = a.rows; outs = a.outs; ins = a.ins.items; box = a.outbox.items; back = a.back }) × (a.outbox.capacity ≡ 8 * a.window) };
+    ghost invariant = { λ a. IsLeaf (record { own = a.own.0; window = a.window; rows = a.rows; outs = a.outs; ins = a.ins.items; box = a.outbox.items; back = a.back }) × (a.outbox.capacity ≡ 8 * a.window) × AreOwed a.ins.items a.owed.bits };
 }
 
 // The in-ports as a run begins.
 fn fresh_ins(alloc: Global, window: u8) -> Result<Vec<InPort>, NoMemory>
+    requires some { 0 < window }
+    requires most { window ≤ 64 }
     ensures { IfOk result (λ ins. ins.items ≡ replicate 8 (fresh_in window)) }
 {
     let mut ins = Vec::with_capacity(alloc, 8)?;
     for _port in 0..8usize {
-        ins.push(InPort::new(alloc, window)?)?;
+        ins.push(InPort::new(window))?;
     }
     Ok(ins)
-}
-
-// The lowest in-port with freed room.
-fn lowest_owed(ins: &[InPort]) -> Option<usize>
-    ensures lowest { result ≡ owed_from 0 ins.now }
-    ensures within { IfSome result (λ j. j < length ins.now) }
-{
-    for (j, port) in ins.iter().enumerate() {
-        if port.freed() > 0 {
-            return Some(j);
-        }
-    }
-    None
 }
 
 impl Leaf {
@@ -82,6 +76,7 @@ impl Leaf {
                 next: 0,
             }; 8],
             ins,
+            owed: Mask::empty(),
             outbox,
             back: None,
         })
@@ -99,7 +94,7 @@ impl Leaf {
     pub fn idle(&self) -> bool
         ensures { result ≡ is_idle self.now }
     {
-        self.back.is_none() && lowest_owed(&self.ins).is_none() && self.outbox.is_empty()
+        self.back.is_none() && self.lowest_owed().is_none() && self.outbox.is_empty()
     }
 
     /// Sets the row of a slot of an idle leaf.
@@ -149,7 +144,7 @@ impl Leaf {
         }
         self.outs[k] = OutPort {
             credits: out.credits - 1,
-            next: (out.next + 1) % self.window,
+            next: number_after(out.next, self.window),
         };
         self.outbox.push_back(Waiting {
             port: port.0,
@@ -167,7 +162,11 @@ impl Leaf {
         ensures word { result ≡ next_word self.old port.0 }
         ensures state { self.new ≡ (if is_some (next_word self.old port.0) then took self.old port.0 else self.old) }
     {
-        self.ins[port.0 as usize].take(self.window)
+        let word = self.ins[port.0 as usize].take();
+        if word.is_some() {
+            self.owed = self.owed.with(port.0);
+        }
+        word
     }
 
     /// Takes a packet that arrives, where none is to be sent back. One for another leaf is kept, to be sent back.
@@ -223,14 +222,23 @@ impl Leaf {
         }
     }
 
+    // The lowest in-port with freed room.
+    fn lowest_owed(&self) -> Option<u8>
+        ensures lowest { result ≡ owed_from 0 self.now.ins }
+        ensures within { IfSome result (λ j. j < 8) }
+    {
+        self.owed.lowest()
+    }
+
     // Offers the freed room of an in-port.
-    fn offer_credit(&mut self, round: RoundNo, j: usize) -> Option<Packet>
+    fn offer_credit(&mut self, round: RoundNo, j: u8) -> Option<Packet>
         requires { j < 8 }
         ensures state { self.new ≡ (offer_credit self.old round.0 j).0 }
         ensures packet { result ≡ (offer_credit self.old round.0 j).1 }
     {
-        let count = self.ins[j].give_back();
-        match self.rows[8 + j] {
+        let count = self.ins[j as usize].give_back();
+        self.owed = self.owed.without(j);
+        match self.rows[8 + j as usize] {
             Some(row) => Some(self.packet(round, row.leaf, Body::Credit(row.port, count))),
             None => None,
         }
@@ -265,7 +273,7 @@ impl Leaf {
         if let Some(entry) = config {
             return Some(self.packet(round, entry.leaf, Body::Config(entry.slot, entry.row)));
         }
-        match lowest_owed(&self.ins) {
+        match self.lowest_owed() {
             Some(j) => self.offer_credit(round, j),
             None => self.offer_word(round),
         }

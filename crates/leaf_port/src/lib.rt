@@ -3,6 +3,7 @@
 
 mod laws;
 mod leaf;
+mod masks;
 mod ports;
 mod tables;
 #[cfg(test)]

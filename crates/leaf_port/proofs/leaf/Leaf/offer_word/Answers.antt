@@ -12,4 +12,4 @@ bounds c =
 pub invariant_of-self-in-Some-rows : goal.invariant_of-self-in-Some-rows
 invariant_of-self-in-Some-rows c =
     let s : LeafState = record { own = c.self.inside.own.0; window = c.self.inside.window; rows = c.self.inside.rows; outs = c.self.inside.outs; ins = c.self.inside.ins.items; box = c.self.inside.outbox.items; back = c.self.inside.back } in
-    rw c.pop_front.ensures.items (dropped_keeps s c.self.invariant.0, c.self.invariant.1)
+    rw c.pop_front.ensures.items (dropped_keeps s c.self.invariant.0, c.self.invariant.1, c.self.invariant.2)

@@ -20,7 +20,7 @@ invariant_of-self c =
     let credit : 0 < (out_port s c.args.port.0).credits = omega (arith, c.if-out-eq0.false) in
     let room : length s.box < 8 * s.window = box_has_room s c.args.port.0 c.self.invariant.0 c.requires.port credit in
     let box : c.push_back.new.self ≡ buffer (wrote s c.args.port.0 c.args.w).box c.self.inside.outbox.capacity = pushed _ _ (8 * s.window) _ c.self.invariant.1 room c.push_back.ensures.items in
-    rw box (wrote_keeps s c.args.port.0 c.args.w c.self.invariant.0 c.requires.port row credit, c.self.invariant.1)
+    rw (box, c.number_after.ensures) (wrote_keeps s c.args.port.0 c.args.w c.self.invariant.0 c.requires.port row credit, c.self.invariant.1, c.self.invariant.2)
 
 pub returns-clause-state : goal.returns-clause-state
 returns-clause-state c =
@@ -29,4 +29,4 @@ returns-clause-state c =
     let can : can_write s c.args.port.0 ≡ true = grind (arith, nat_tests) in
     let room : length s.box < 8 * s.window = box_has_room s c.args.port.0 c.self.invariant.0 c.requires.port credit in
     let box : c.push_back.new.self ≡ buffer (wrote s c.args.port.0 c.args.w).box c.self.inside.outbox.capacity = pushed _ _ (8 * s.window) _ c.self.invariant.1 room c.push_back.ensures.items in
-    rw (← c.self.view_is) (rw can (rw box refl))
+    rw (← c.self.view_is) (rw can (rw (box, c.number_after.ensures) refl))

@@ -1,5 +1,0 @@
-use Rattle.network_account.proofs.Moves.{begins}
-use Rattle.network_account.proofs.begins.Goals as goal
-
-pub returns : goal.returns
-returns c = begins
