@@ -2,13 +2,13 @@
 
 ghost use Rattle.std.specs.Prelude.{◌≡◌, ◌≤◌};
 ghost use Rattle.pld_draft.specs.Draft.{at_first, words_of as words_of_input, IsKept};
-ghost use Rattle.pld_draft.specs.Edits.{op as op_edit, replace as replace_edit, remove_operator, connect as connect_edit, disconnect as disconnect_edit, input as input_edit, output as output_edit, pin as pin_edit, unpin as unpin_edit, pages as pages_edit, feed as feed_edit, clear as clear_edit, Tries, Makes};
+ghost use Rattle.pld_draft.specs.Edits.{op as op_edit, replace as replace_edit, remove_operator, connect as connect_edit, disconnect as disconnect_edit, input as input_edit, output as output_edit, pin as pin_edit, unpin as unpin_edit, pages as pages_edit, feed as feed_edit, clear as clear_edit, edited, Tries};
 
 use crate::feeds::{append, drop_lost, empty, words_in};
-use crate::parts::{EditFault, Feed, Source};
-use pld_base::{End, Kind, Name, NoMemory, Refused};
+use crate::parts::{EditFault, EditRefusal, Feed, Source};
+use pld_base::{End, Kind, Name};
 use pld_graph::{Cut, Graph, GraphFault};
-use pld_script::{Text, WordList};
+use pld_script::{Depth, Edit, Text, WordList};
 use pld_source::read_operator;
 use std::alloc::Global;
 use std::marker::Model;
@@ -82,224 +82,166 @@ impl Draft {
         words_in(self.feeds.as_slice(), name)
     }
 
-    /// Adds an operator of this kind with this text, last in the order of declaration.
+    /// Makes an edit. Each of them:
     ///
-    /// `NameTaken` and `TooMany` as in `Graph::add`; then `Source`, where the text has a fault.
-    pub fn op(
-        &mut self,
-        alloc: Global,
-        name: Name,
-        kind: Kind,
-        text: Text,
-    ) -> Result<(), Refused<EditFault>>
+    /// - `Op` adds an operator of this kind with this text, last in the order of declaration: `NameTaken` and `TooMany` as in
+    ///   `Graph::add`; then `Source`, where the text has a fault.
+    /// - `Replace` gives an operator a new kind and text; its place, its pin and its channels stay: `UnknownOperator` where no
+    ///   operator has this name; `Source` where the text has a fault; `UnknownPort` where a channel stands at a port that the new
+    ///   text lacks.
+    /// - `Remove`, `Connect`, `Disconnect`, `Output`, `Pin`, `Unpin` and `Pages` are as in `Graph`. An input's words go with it.
+    /// - `Input` adds an input without words, as `Graph::input`.
+    /// - `Feed` appends words to those of an input: `NotLinked` where no input has this name; `TooManyWords` where it would have
+    ///   more than 65,536.
+    /// - `Clear` takes an input's words away: `NotLinked` where no input has this name.
+    pub fn edit(&mut self, alloc: Global, edit: Edit) -> Result<(), EditFault>
+        ensures { Tries result (edited edit self.old) self.old self.new }
+    {
+        match edit {
+            Edit::Op(name, kind, text) => self.op(alloc, name, kind, text),
+            Edit::Replace(name, kind, text) => self.replace(alloc, name, kind, text),
+            Edit::Remove(name) => self.remove(name),
+            Edit::Connect(from, to) => self.connect(from, to),
+            Edit::Disconnect(what) => self.disconnect(what),
+            Edit::Input(name, to) => self.input(alloc, name, to),
+            Edit::Output(from, name) => self.output(from, name),
+            Edit::Pin(name, leaf) => self.pin(name, leaf),
+            Edit::Unpin(name) => self.unpin(name),
+            Edit::Pages(depth) => self.pages(depth),
+            Edit::Feed(name, words) => self.feed(name, &words),
+            Edit::Clear(name) => self.clear(name),
+        }
+    }
+
+    fn op(&mut self, alloc: Global, name: Name, kind: Kind, text: Text) -> Result<(), EditFault>
         ensures { Tries result (op_edit name kind text self.old) self.old self.new }
     {
-        if let Err(fault) = self.graph.may_add(&name) {
-            return Err(Refused::Fault(EditFault::Graph(fault)));
-        }
-        let operator = match read_operator(alloc, text.as_slice()) {
-            Ok(operator) => operator,
-            Err(Refused::Fault(fault)) => return Err(Refused::Fault(EditFault::Source(fault))),
-            Err(Refused::NoMemory) => return Err(Refused::NoMemory),
-        };
-        let (ins, outs) = (operator.ins(), operator.outs());
+        self.graph.may_add(&name)?;
+        let operator = read_operator(alloc, text.as_slice())?;
+        self.sources.reserve(1)?;
+        self.graph.add(name, operator.ins(), operator.outs())?;
         let source = Source {
             kind,
             text,
             operator,
         };
-        match self.sources.push(source) {
-            Ok(()) => {}
-            Err(_) => return Err(Refused::NoMemory),
-        }
-        match self.graph.add(name, ins, outs) {
-            Ok(()) => Ok(()),
-            Err(Refused::Fault(fault)) => {
-                self.sources.pop();
-                Err(Refused::Fault(EditFault::Graph(fault)))
-            }
-            Err(Refused::NoMemory) => {
-                self.sources.pop();
-                Err(Refused::NoMemory)
-            }
-        }
+        self.sources.push(source).unwrap();
+        Ok(())
     }
 
-    /// Gives an operator a new kind and text. Its place, its pin and its channels stay.
-    ///
-    /// `UnknownOperator` where no operator has this name; `Source` where the text has a fault; `UnknownPort` where a channel
-    /// stands at a port that the new text lacks.
-    pub fn replace(
+    fn replace(
         &mut self,
         alloc: Global,
         name: Name,
         kind: Kind,
         text: Text,
-    ) -> Result<(), Refused<EditFault>>
+    ) -> Result<(), EditFault>
         ensures { Tries result (replace_edit name kind text self.old) self.old self.new }
     {
         let Some(k) = self.graph.place_of(&name) else {
-            return Err(Refused::Fault(EditFault::Graph(GraphFault::UnknownOperator)));
+            return Err(EditFault::from(GraphFault::UnknownOperator));
         };
-        let operator = match read_operator(alloc, text.as_slice()) {
-            Ok(operator) => operator,
-            Err(Refused::Fault(fault)) => return Err(Refused::Fault(EditFault::Source(fault))),
-            Err(Refused::NoMemory) => return Err(Refused::NoMemory),
+        let operator = read_operator(alloc, text.as_slice())?;
+        self.graph.replace(name, operator.ins(), operator.outs())?;
+        self.sources[k] = Source {
+            kind,
+            text,
+            operator,
         };
-        match self.graph.replace(name, operator.ins(), operator.outs()) {
-            Ok(()) => {
-                self.sources[k] = Source {
-                    kind,
-                    text,
-                    operator,
-                };
-                Ok(())
-            }
-            Err(fault) => Err(Refused::Fault(EditFault::Graph(fault))),
-        }
+        Ok(())
     }
 
-    /// Removes an operator, its pin, its channels, and the inputs and outputs at its ports, as `Graph::remove`. An input's words
-    /// go with it.
-    pub fn remove(&mut self, name: Name) -> Result<(), EditFault>
-        ensures { Makes result (remove_operator name self.old) self.old self.new }
+    fn remove(&mut self, name: Name) -> Result<(), EditFault>
+        ensures { Tries result (remove_operator name self.old) self.old self.new }
     {
         let Some(k) = self.graph.place_of(&name) else {
-            return Err(EditFault::Graph(GraphFault::UnknownOperator));
+            return Err(EditFault::from(GraphFault::UnknownOperator));
         };
         // Asked since it tells that the design is sound: no two inputs have one name.
         let _channels = self.graph.channels();
-        match self.graph.remove(name) {
-            Ok(()) => {
-                self.sources.remove(k);
-                drop_lost(&mut self.feeds, &self.graph);
-                Ok(())
-            }
-            Err(fault) => Err(EditFault::Graph(fault)),
-        }
+        self.graph.remove(name)?;
+        self.sources.remove(k);
+        drop_lost(&mut self.feeds, &self.graph);
+        Ok(())
     }
 
-    /// Joins an out-port to an in-port, as `Graph::connect`.
-    pub fn connect(&mut self, from: End, to: End) -> Result<(), Refused<EditFault>>
+    fn connect(&mut self, from: End, to: End) -> Result<(), EditFault>
         ensures { Tries result (connect_edit from to self.old) self.old self.new }
     {
-        match self.graph.connect(from, to) {
-            Ok(()) => Ok(()),
-            Err(Refused::Fault(fault)) => Err(Refused::Fault(EditFault::Graph(fault))),
-            Err(Refused::NoMemory) => Err(Refused::NoMemory),
-        }
+        self.graph.connect(from, to)?;
+        Ok(())
     }
 
-    /// Removes a channel, as `Graph::disconnect`. An input's words go with it.
-    pub fn disconnect(&mut self, what: Cut) -> Result<(), EditFault>
-        ensures { Makes result (disconnect_edit what self.old) self.old self.new }
+    fn disconnect(&mut self, what: Cut) -> Result<(), EditFault>
+        ensures { Tries result (disconnect_edit what self.old) self.old self.new }
     {
         // Asked since it tells that the design is sound: no two inputs have one name.
         let _channels = self.graph.channels();
-        match self.graph.disconnect(what) {
-            Ok(()) => {
-                drop_lost(&mut self.feeds, &self.graph);
-                Ok(())
-            }
-            Err(fault) => Err(EditFault::Graph(fault)),
-        }
+        self.graph.disconnect(what)?;
+        drop_lost(&mut self.feeds, &self.graph);
+        Ok(())
     }
 
-    /// Adds an input without words, joined to an in-port, as `Graph::input`.
-    pub fn input(&mut self, alloc: Global, name: Name, to: End) -> Result<(), Refused<EditFault>>
+    fn input(&mut self, alloc: Global, name: Name, to: End) -> Result<(), EditFault>
         ensures { Tries result (input_edit name to self.old) self.old self.new }
     {
+        self.feeds.reserve(1)?;
+        self.graph.input(name, to)?;
         let feed = Feed {
             name,
             words: WordList::of(Vec::new(alloc)),
         };
-        match self.feeds.push(feed) {
-            Ok(()) => {}
-            Err(_) => return Err(Refused::NoMemory),
-        }
-        match self.graph.input(name, to) {
-            Ok(()) => Ok(()),
-            Err(Refused::Fault(fault)) => {
-                self.feeds.pop();
-                Err(Refused::Fault(EditFault::Graph(fault)))
-            }
-            Err(Refused::NoMemory) => {
-                self.feeds.pop();
-                Err(Refused::NoMemory)
-            }
-        }
+        self.feeds.push(feed).unwrap();
+        Ok(())
     }
 
-    /// Adds an output, joined to an out-port, as `Graph::output`.
-    pub fn output(&mut self, from: End, name: Name) -> Result<(), Refused<EditFault>>
+    fn output(&mut self, from: End, name: Name) -> Result<(), EditFault>
         ensures { Tries result (output_edit from name self.old) self.old self.new }
     {
-        match self.graph.output(from, name) {
-            Ok(()) => Ok(()),
-            Err(Refused::Fault(fault)) => Err(Refused::Fault(EditFault::Graph(fault))),
-            Err(Refused::NoMemory) => Err(Refused::NoMemory),
-        }
+        self.graph.output(from, name)?;
+        Ok(())
     }
 
-    /// Pins an operator to a leaf, as `Graph::pin`.
-    pub fn pin(&mut self, name: Name, leaf: u16) -> Result<(), EditFault>
-        ensures { Makes result (pin_edit name leaf self.old) self.old self.new }
+    fn pin(&mut self, name: Name, leaf: u16) -> Result<(), EditFault>
+        ensures { Tries result (pin_edit name leaf self.old) self.old self.new }
     {
-        match self.graph.pin(name, leaf) {
-            Ok(()) => Ok(()),
-            Err(fault) => Err(EditFault::Graph(fault)),
-        }
+        self.graph.pin(name, leaf)?;
+        Ok(())
     }
 
-    /// Takes an operator's pin away, as `Graph::unpin`.
-    pub fn unpin(&mut self, name: Name) -> Result<(), EditFault>
-        ensures { Makes result (unpin_edit name self.old) self.old self.new }
+    fn unpin(&mut self, name: Name) -> Result<(), EditFault>
+        ensures { Tries result (unpin_edit name self.old) self.old self.new }
     {
-        match self.graph.unpin(name) {
-            Ok(()) => Ok(()),
-            Err(fault) => Err(EditFault::Graph(fault)),
-        }
+        self.graph.unpin(name)?;
+        Ok(())
     }
 
-    /// Sets the depth of the tree, from 1 to 6, as `Graph::set_pages`.
-    pub fn pages(&mut self, depth: u8) -> Result<(), EditFault>
-        requires least { 1 ≤ depth }
-        requires most { depth ≤ 6 }
-        ensures { Makes result (pages_edit depth self.old) self.old self.new }
+    fn pages(&mut self, depth: Depth) -> Result<(), EditFault>
+        ensures { Tries result (pages_edit depth self.old) self.old self.new }
     {
-        match self.graph.set_pages(depth) {
-            Ok(()) => Ok(()),
-            Err(fault) => Err(EditFault::Graph(fault)),
-        }
+        self.graph.set_pages(depth.levels())?;
+        Ok(())
     }
 
-    /// Appends words to those of an input.
-    ///
-    /// `NotLinked` where no input has this name; `TooManyWords` where it would have more than 65,536.
-    pub fn feed(&mut self, name: Name, words: &WordList) -> Result<(), Refused<EditFault>>
+    fn feed(&mut self, name: Name, words: &WordList) -> Result<(), EditFault>
         ensures { Tries result (feed_edit name words.now self.old) self.old self.new }
     {
         if !self.graph.is_input(&name) {
-            return Err(Refused::Fault(EditFault::Graph(GraphFault::NotLinked)));
+            return Err(EditFault::from(GraphFault::NotLinked));
         }
         let has = words_in(self.feeds.as_slice(), &name).len();
         if words.len() > FEED_WORDS || has > FEED_WORDS - words.len() {
-            return Err(Refused::Fault(EditFault::TooManyWords));
+            return Err(EditFault::from(EditRefusal::TooManyWords));
         }
-        match append(&mut self.feeds, &name, words) {
-            Ok(()) => Ok(()),
-            Err(NoMemory) => Err(Refused::NoMemory),
-        }
+        append(&mut self.feeds, &name, words)?;
+        Ok(())
     }
 
-    /// Takes an input's words away.
-    ///
-    /// `NotLinked` where no input has this name.
-    pub fn clear(&mut self, name: Name) -> Result<(), EditFault>
-        ensures { Makes result (clear_edit name self.old) self.old self.new }
+    fn clear(&mut self, name: Name) -> Result<(), EditFault>
+        ensures { Tries result (clear_edit name self.old) self.old self.new }
     {
         if !self.graph.is_input(&name) {
-            return Err(EditFault::Graph(GraphFault::NotLinked));
+            return Err(EditFault::from(GraphFault::NotLinked));
         }
         empty(&mut self.feeds, &name);
         Ok(())

@@ -6,4 +6,4 @@ mod feeds;
 mod parts;
 
 pub use draft::Draft;
-pub use parts::{EditFault, Feed, Source};
+pub use parts::{EditFault, EditRefusal, Feed, Source};

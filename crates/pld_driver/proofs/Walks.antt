@@ -296,18 +296,7 @@ none_rest ended bytes at h = let P : List ℕ → Type 0 = λ l. HoldsNone ended
 
 quit_is : (told : Option Statement) → is_quit told ≡ true → told ≡ Some says.Quit
 quit_is None h = cc
-quit_is (Some (says.Op name kind text)) h = cc
-quit_is (Some (says.Replace name kind text)) h = cc
-quit_is (Some (says.Remove name)) h = cc
-quit_is (Some (says.Connect from to)) h = cc
-quit_is (Some (says.Disconnect what)) h = cc
-quit_is (Some (says.Input name to)) h = cc
-quit_is (Some (says.Output from name)) h = cc
-quit_is (Some (says.Pin name leaf)) h = cc
-quit_is (Some (says.Unpin name)) h = cc
-quit_is (Some (says.Pages count)) h = cc
-quit_is (Some (says.Feed name words)) h = cc
-quit_is (Some (says.Clear name)) h = cc
+quit_is (Some (says.Edit edit)) h = cc
 quit_is (Some says.Build) h = cc
 quit_is (Some says.Run) h = cc
 quit_is (Some (says.DumpImage name)) h = cc

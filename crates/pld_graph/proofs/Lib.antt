@@ -6,3 +6,5 @@ mod Opens
 pub mod Sounds
 pub mod Refusals
 mod Changes
+pub mod Masks
+pub mod Counted

@@ -32,7 +32,7 @@ none_all p [] e k d l = absurd (omega (arith, l))
 none_all p (x ∷ xs) e zero d l = (or_false (p x) (list_any p xs) e).0
 none_all p (x ∷ xs) e (suc k) d l = none_all p xs (or_false (p x) (list_any p xs) e).1 k d (omega (arith, l))
 
-none_counted : {X : Type 0} (p : X → Bool) (xs : List X) → list_any p xs ≡ false → count_by p xs ≡ 0
+pub none_counted : {X : Type 0} (p : X → Bool) (xs : List X) → list_any p xs ≡ false → count_by p xs ≡ 0
 none_counted p [] e = refl
 none_counted p (x ∷ xs) e =
     let both = or_false (p x) (list_any p xs) e in
@@ -317,7 +317,7 @@ no_rival true b e h = refl
 no_rival false b e h = absurd (true≢false (sym h ∙ e))
 
 -- where no other operator is pinned to the leaf
-alone_there : (d : Design) (name : List ℕ) (k leaf : ℕ) → k < length d.operators → bytes_eq (operator_at d.operators k).name name ≡ true → list_any (is_rival name leaf) d.operators ≡ false → IsSound d → count_by (is_pinned leaf) (remove d.operators k) ≡ 0
+pub alone_there : (d : Design) (name : List ℕ) (k leaf : ℕ) → k < length d.operators → bytes_eq (operator_at d.operators k).name name ≡ true → list_any (is_rival name leaf) d.operators ≡ false → IsSound d → count_by (is_pinned leaf) (remove d.operators k) ≡ 0
 alone_there d name k leaf there here rivals s =
     let each = none_all (is_rival name leaf) d.operators rivals in
     let others : All (λ o. is_pinned leaf o ≡ true → is_called name o ≡ true) (remove d.operators k) =

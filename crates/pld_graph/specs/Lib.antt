@@ -4,3 +4,4 @@ pub mod Design
 pub mod Edits
 pub mod Sound
 pub mod Joined
+pub mod Masks

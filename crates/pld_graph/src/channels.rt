@@ -7,6 +7,7 @@ ghost use Rattle.indexmap.specs.IndexMap.{IsUnchanged, spare, keys, values};
 ghost use Rattle.pld_graph.specs.Parts.{same_end as same_end_of, is_lost as is_lost_of, is_of as is_of_operator, stands_at, is_host as is_host_of, is_cut as is_cut_of, passes, from_port, to_port, from_input, to_output, same_from, same_to};
 ghost use Rattle.pld_graph.specs.Design.{is_linked as is_linked_of, inputs as inputs_of, outputs as outputs_of, is_input as is_input_of};
 ghost use Rattle.pld_graph.specs.Sound.{is_directed};
+ghost use Rattle.pld_graph.specs.Masks.{ones};
 
 use crate::{Channel, Cut, FromEnd, ToEnd, looks};
 use indexmap::IndexMap;
@@ -19,18 +20,21 @@ use std::marker::Model;
 pub struct Channels {
     to_of: IndexMap<FromEnd, ToEnd>,
     from_of: IndexMap<ToEnd, FromEnd>,
+    input_count: usize,
+    output_count: usize,
 }
 
 impl Model for Channels {
     ghost use Rattle.std.specs.Prelude.{List};
     ghost use Rattle.pld_graph.specs.declared.parts.Channel.{Channel};
     ghost use Rattle.pld_graph.specs.Joined.{joined, IsMirrored};
+    ghost use Rattle.pld_graph.specs.Masks.{AreCounted};
 
     ghost Value = { List Channel };
 
     ghost view = { λ cs. joined cs.to_of.entries };
 
-    ghost invariant = { λ cs. IsMirrored cs.to_of.entries cs.from_of.entries };
+    ghost invariant = { λ cs. IsMirrored cs.to_of.entries cs.from_of.entries × AreCounted (joined cs.to_of.entries) cs.input_count cs.output_count };
 }
 
 // Whether a channel comes from this port.
@@ -87,6 +91,28 @@ fn output_of(to: &ToEnd) -> Option<Name>
     }
 }
 
+// One for an input, none for a port.
+fn one_input(from: &FromEnd) -> usize
+    ensures value { result ≡ ones (from_input from.now) }
+    ensures few { result ≤ 1 }
+{
+    match from {
+        FromEnd::Port(_) => 0,
+        FromEnd::Input(_) => 1,
+    }
+}
+
+// One for an output, none for a port.
+fn one_output(to: &ToEnd) -> usize
+    ensures value { result ≡ ones (to_output to.now) }
+    ensures few { result ≤ 1 }
+{
+    match to {
+        ToEnd::Port(_) => 0,
+        ToEnd::Output(_) => 1,
+    }
+}
+
 fn count_inputs(to_of: &IndexMap<FromEnd, ToEnd>) -> usize
     ensures { result ≡ length (filter_map from_input (keys to_of.now)) }
 {
@@ -118,6 +144,8 @@ impl Channels {
         Channels {
             to_of: IndexMap::new(alloc),
             from_of: IndexMap::new(alloc),
+            input_count: 0,
+            output_count: 0,
         }
     }
 
@@ -175,14 +203,14 @@ impl Channels {
     pub fn inputs(&self) -> usize
         ensures { result ≡ length (inputs_of self.now) }
     {
-        count_inputs(&self.to_of)
+        self.input_count
     }
 
     /// How many outputs there are.
     pub fn outputs(&self) -> usize
         ensures { result ≡ length (outputs_of self.now) }
     {
-        count_outputs(&self.to_of)
+        self.output_count
     }
 
     /// The name of the k-th input.
@@ -204,11 +232,15 @@ impl Channels {
         requires directed { is_directed (record { from = from.now; to = to.now }) ≡ true }
         requires from_free { list_any (λ c. same_from from.now c.from) self.old ≡ false }
         requires to_free { list_any (λ c. same_to to.now c.to) self.old ≡ false }
+        requires few_inputs { length (inputs_of self.old) ≤ 8 }
+        requires few_outputs { length (outputs_of self.old) ≤ 8 }
         ensures { MatchResult result (λ _done. self.new ≡ self.old ++ (record { from = from.now; to = to.now }) ∷ []) (λ _e. self.new ≡ self.old) }
     {
         self.from_of.reserve(1)?;
         self.to_of.insert(*from, *to)?;
         self.from_of.insert(*to, *from).unwrap();
+        self.input_count += one_input(from);
+        self.output_count += one_output(to);
         Ok(())
     }
 
@@ -226,6 +258,8 @@ impl Channels {
                 ensures { (result ≡ not (stands_at (is_of_operator name.entry.now) (record { from = from.old; to = to.now }))) × (from.new ≡ from.old) }
             { !looks::is_of(from, to, name) },
         );
+        self.input_count = count_inputs(&self.to_of);
+        self.output_count = count_outputs(&self.to_of);
     }
 
     // Removes the channel with this producing end, if there is one. Those behind it close up.
@@ -234,8 +268,11 @@ impl Channels {
         ensures sides { list_all is_directed self.old ≡ true }
     {
         if let Some(k) = self.to_of.get_index_of(from) {
+            let gone = self.at(k);
             self.to_of.shift_remove_index(k);
             self.from_of.shift_remove_index(k);
+            self.input_count -= one_input(&gone.from);
+            self.output_count -= one_output(&gone.to);
         }
     }
 
@@ -245,8 +282,11 @@ impl Channels {
         ensures sides { list_all is_directed self.old ≡ true }
     {
         if let Some(k) = self.from_of.get_index_of(to) {
+            let gone = self.at(k);
             self.to_of.shift_remove_index(k);
             self.from_of.shift_remove_index(k);
+            self.input_count -= one_input(&gone.from);
+            self.output_count -= one_output(&gone.to);
         }
     }
 

@@ -5,8 +5,9 @@ ghost use Rattle.pld_base.specs.declared.event.Side.TheVariants.{In, Out};
 ghost use Rattle.pld_base.specs.declared.memory.Refused.TheVariants as refused;
 ghost use Rattle.pld_graph.specs.declared.parts.GraphFault.TheVariants.{NameTaken};
 ghost use Rattle.pld_graph.specs.Design.{Design, fresh, place_of as place_in, operator_at, pin_in, is_named, inputs as inputs_of, outputs as outputs_of, is_input as is_input_of, has_port, open_port};
+ghost use Rattle.std.specs.List.{list_any};
 ghost use Rattle.pld_graph.specs.Sound.{IsSound};
-ghost use Rattle.pld_graph.specs.Edits.{when, with_channel, add_refusal, added, replaced, removed, connect_refusal, connected, with_input, with_output, disconnected, cut_refusal, pinned, unpinned, repaged, unknown, misdirected, lacking, taken, full, host_refusal, fault_in, Edits, Tries};
+ghost use Rattle.pld_graph.specs.Edits.{is_rival, when, with_channel, add_refusal, added, replaced, removed, connect_refusal, connected, with_input, with_output, disconnected, cut_refusal, pinned, unpinned, repaged, unknown, misdirected, lacking, taken, full, host_refusal, fault_in, Edits, Tries};
 
 use crate::channels::Channels;
 use crate::operators::Operators;
@@ -135,6 +136,17 @@ impl Graph {
         ensures sound { IsSound self.now }
     {
         refuse(self.channels.len() >= MOST_CHANNELS, GraphFault::TooMany)
+    }
+
+    // Whether an operator of another name than that of the one at the place is pinned to the leaf.
+    fn has_rival(&self, k: usize, name: &Name, leaf: u8) -> bool
+        requires within { k < length self.now.operators }
+        requires place { Some k ≡ place_in name.now self.now }
+        requires below { leaf < 64 }
+        ensures { result ≡ list_any (is_rival name.now leaf) self.now.operators }
+    {
+        let own = looks::is_pin(self.operators.at(k).pin, leaf);
+        looks::is_only_other(own, self.operators.is_pinned(leaf))
     }
 
     // A channel, last in the order of declaration.
@@ -313,8 +325,8 @@ impl Graph {
         let Some(leaf) = looks::leaf_within(self.depth, leaf) else {
             return Err(GraphFault::LeafRange);
         };
-        refuse(self.operators.has_rival(&name, leaf), GraphFault::LeafTaken)?;
-        self.operators.set_pin(k, Some(leaf));
+        refuse(self.has_rival(k, &name, leaf), GraphFault::LeafTaken)?;
+        self.operators.pin(k, leaf);
         Ok(())
     }
 
@@ -327,7 +339,7 @@ impl Graph {
         let Some(k) = self.operators.place_of(&name) else {
             return Err(GraphFault::UnknownOperator);
         };
-        self.operators.set_pin(k, None);
+        self.operators.unpin(k);
         Ok(())
     }
 

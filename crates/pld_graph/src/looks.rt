@@ -1,8 +1,8 @@
 //! What stands in lists of operators and channels.
 
-ghost use Rattle.std.specs.Prelude.{◌≡◌, ◌≤◌, ◌<◌, ◌^◌, not, true, false, IfSome, MatchOption, MatchResult, [], ◌∷◌, ◌++◌, length, filter, slice_get, option_copied};
+ghost use Rattle.std.specs.Prelude.{◌≡◌, ◌==◌, ◌≤◌, ◌<◌, ◌^◌, not, ◌&&◌, true, false, IfSome, MatchOption, MatchResult, [], ◌∷◌, ◌++◌, length, filter, slice_get, option_copied};
 ghost use Rattle.std.specs.List.{list_any, find};
-ghost use Rattle.pld_graph.specs.Parts.{same_side as same_side_of, same_end as same_end_of, on_side as on_side_of, is_below as is_below_of, is_lost as is_lost_of, is_of as is_of_operator, stands_at, is_host as is_host_of, is_cut as is_cut_of};
+ghost use Rattle.pld_graph.specs.Parts.{same_side as same_side_of, same_end as same_end_of, on_side as on_side_of, is_below as is_below_of, is_lost as is_lost_of, is_of as is_of_operator, stands_at, passes, is_host as is_host_of, is_cut as is_cut_of};
 ghost use Rattle.pld_graph.specs.Edits.{is_leaf, is_rival as is_rival_of, is_outside as is_outside_of};
 ghost use Rattle.pld_graph.specs.Design.{place_from, is_called, is_linked as is_linked_of, open_among, open_of, first_open as first_open_of, inputs as inputs_of, outputs as outputs_of, comes_from as comes_from_input, is_input as is_input_of};
 
@@ -129,10 +129,28 @@ pub fn leaves(depth: u8) -> u16
     1 << depth
 }
 
+// Whether it is a pin to this leaf.
+pub fn is_pin(pin: Option<u8>, leaf: u8) -> bool
+    ensures { result ≡ passes (λ l. l == leaf) pin }
+{
+    match pin {
+        Some(l) => l == leaf,
+        None => false,
+    }
+}
+
+// Whether the second holds, and the first doesn't.
+pub fn is_only_other(own: bool, any: bool) -> bool
+    ensures { result ≡ (not own && any) }
+{
+    !own && any
+}
+
 // The leaf of an operator in a tree of this depth; None where there is no such leaf.
 pub fn leaf_within(depth: u8, leaf: u16) -> Option<u8>
     requires { depth ≤ 6 }
-    ensures { MatchOption result (is_leaf depth leaf ≡ false) (λ l. (is_leaf depth leaf ≡ true) × (l ≡ leaf)) }
+    ensures leaf { MatchOption result (is_leaf depth leaf ≡ false) (λ l. (is_leaf depth leaf ≡ true) × (l ≡ leaf)) }
+    ensures below { IfSome result (λ l. l < 64) }
 {
     if leaf > 0 && leaf < leaves(depth) {
         Some(leaf as u8)

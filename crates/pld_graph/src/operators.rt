@@ -1,10 +1,11 @@
 //! Operators by name and in the order of their declaration.
 
-ghost use Rattle.std.specs.Prelude.{◌≡◌, ◌≤◌, not, nat_lt, ◌++◌, ◌∷◌, [], ◌<◌, None, IfSome, MatchResult, length, remove, slice_set};
-ghost use Rattle.std.specs.List.{find, list_any};
-ghost use Rattle.indexmap.specs.IndexMap.{values};
+ghost use Rattle.std.specs.Prelude.{◌≡◌, ◌==◌, ℕ, ◌^◌, ◌≤◌, if◌then◌else◌, not, nat_lt, ◌++◌, ◌∷◌, [], ◌<◌, Some, None, IfSome, MatchResult, length, remove, slice_set};
+ghost use Rattle.std.specs.Int.{bit_at};
+ghost use Rattle.std.specs.List.{count_by, find, list_any};
 ghost use Rattle.pld_graph.specs.Parts.{passes};
-ghost use Rattle.pld_graph.specs.Edits.{is_rival as is_rival_of, is_outside as is_outside_of};
+ghost use Rattle.pld_graph.specs.Edits.{is_outside as is_outside_of};
+ghost use Rattle.pld_graph.specs.Sound.{is_pinned as is_pinned_to};
 ghost use Rattle.pld_graph.specs.Design.{place_from, is_called, operator_at};
 ghost use Rattle.pld_graph.specs.Entries.{entry_of};
 
@@ -26,16 +27,21 @@ pub struct Counts {
 #[derive(Drop)]
 pub struct Operators {
     by_name: IndexMap<Name, Counts>,
+    /// A bit for each leaf to which an operator is pinned.
+    pinned: u64,
 }
 
 impl Model for Operators {
     ghost use Rattle.std.specs.Prelude.{List};
     ghost use Rattle.pld_graph.specs.declared.parts.OperatorEntry.{OperatorEntry};
     ghost use Rattle.pld_graph.specs.Entries.{listed};
+    ghost use Rattle.pld_graph.specs.Masks.{IsMask};
 
     ghost Value = { List OperatorEntry };
 
     ghost view = { λ os. listed os.by_name.entries };
+
+    ghost invariant = { λ os. IsMask (listed os.by_name.entries) os.pinned };
 }
 
 // The operator of this name with these counts.
@@ -50,37 +56,50 @@ fn entry(name: &Name, counts: &Counts) -> OperatorEntry
     }
 }
 
-// Whether it has another name than this one, and is pinned to the leaf.
-fn is_rival(own: &Name, counts: &Counts, name: &Name, leaf: u8) -> bool
-    ensures { result ≡ is_rival_of name.now leaf (entry_of (own.now, counts.now)) }
+// Whether the leaf is among these.
+fn has_leaf(pinned: u64, leaf: u8) -> bool
+    requires { leaf < 64 }
+    ensures { result ≡ (bit_at pinned leaf == 1) }
 {
-    let there = match counts.pin {
-        Some(l) => l == leaf,
-        None => false,
-    };
-    there && !own.is_same(name)
+    (pinned >> leaf) & 1 == 1
 }
 
-// Whether it is pinned, and not below so many leaves.
-fn is_past(counts: &Counts, leaves: u16) -> bool
-    ensures { result ≡ passes (λ l. not (nat_lt l leaves)) counts.now.pin }
+// Whether a leaf from n on is among these.
+fn has_from(pinned: u64, n: u16) -> bool
+    requires { n ≤ 64 }
+    ensures { result ≡ not (nat_lt pinned (2 ^ n)) }
 {
-    match counts.pin {
-        Some(l) => l as u16 >= leaves,
-        None => false,
+    n < 64 && pinned >= 1 << n
+}
+
+// These leaves and one more.
+fn with_leaf(pinned: u64, leaf: u8) -> u64
+    requires { leaf < 64 }
+    ensures bits { (l : ℕ) → bit_at result l ≡ (if leaf == l then 1 else bit_at pinned l) }
+    ensures small { result < 2 ^ 64 }
+{
+    pinned | (1 << leaf)
+}
+
+// These leaves without one.
+fn without_leaf(pinned: u64, leaf: u8) -> u64
+    requires { leaf < 64 }
+    ensures bits { (l : ℕ) → bit_at result l ≡ (if leaf == l then 0 else bit_at pinned l) }
+    ensures small { result < 2 ^ 64 }
+{
+    pinned & !(1 << leaf)
+}
+
+// These leaves without that of a pin.
+fn without_pin(pinned: u64, pin: Option<u8>) -> u64
+    requires { IfSome pin (λ leaf. leaf < 64) }
+    ensures bits { (l : ℕ) → bit_at result l ≡ (if passes (λ leaf. leaf == l) pin then 0 else bit_at pinned l) }
+    ensures small { result < 2 ^ 64 }
+{
+    match pin {
+        Some(leaf) => without_leaf(pinned, leaf),
+        None => pinned,
     }
-}
-
-fn some_rival(by_name: &IndexMap<Name, Counts>, name: &Name, leaf: u8) -> bool
-    ensures { result ≡ list_any (λ e. is_rival_of name.now leaf (entry_of e)) by_name.now.entries }
-{
-    by_name.iter().any(|(n, c)| is_rival(n, c, name, leaf))
-}
-
-fn some_past(by_name: &IndexMap<Name, Counts>, leaves: u16) -> bool
-    ensures { result ≡ list_any (λ c. passes (λ l. not (nat_lt l leaves)) c.pin) (values by_name.now) }
-{
-    by_name.values().any(|c| is_past(c, leaves))
 }
 
 impl Operators {
@@ -89,6 +108,7 @@ impl Operators {
     {
         Operators {
             by_name: IndexMap::new(alloc),
+            pinned: 0,
         }
     }
 
@@ -126,11 +146,12 @@ impl Operators {
         }
     }
 
-    /// Whether an operator of another name is pinned to the leaf.
-    pub fn has_rival(&self, name: &Name, leaf: u8) -> bool
-        ensures { result ≡ list_any (is_rival_of name.now leaf) self.now }
+    /// Whether an operator is pinned to the leaf.
+    pub fn is_pinned(&self, leaf: u8) -> bool
+        requires { leaf < 64 }
+        ensures { result ≡ list_any (is_pinned_to leaf) self.now }
     {
-        some_rival(&self.by_name, name, leaf)
+        has_leaf(self.pinned, leaf)
     }
 
     /// Whether an operator is pinned to a leaf that a tree of this depth lacks.
@@ -138,7 +159,7 @@ impl Operators {
         requires { depth ≤ 6 }
         ensures { result ≡ list_any (is_outside_of depth) self.now }
     {
-        some_past(&self.by_name, looks::leaves(depth))
+        has_from(self.pinned, looks::leaves(depth))
     }
 
     /// An operator without a pin, last in the order of declaration.
@@ -166,12 +187,25 @@ impl Operators {
         self.by_name[k] = Counts { ins, outs, pin };
     }
 
-    /// Another pin of the operator at a place, or none.
-    pub fn set_pin(&mut self, k: usize, pin: Option<u8>)
-        requires { k < length self.old }
-        ensures { self.new ≡ slice_set self.old k (record (operator_at self.old k) { pin = pin }) }
+    /// A pin of the operator at a place, to a leaf to which no other one is pinned.
+    pub fn pin(&mut self, k: usize, leaf: u8)
+        requires within { k < length self.old }
+        requires below { leaf < 64 }
+        requires free { count_by (is_pinned_to leaf) (remove self.old k) ≡ 0 }
+        ensures { self.new ≡ slice_set self.old k (record (operator_at self.old k) { pin = Some leaf }) }
     {
-        self.by_name[k].pin = pin;
+        let pinned = without_pin(self.pinned, self.by_name[k].pin);
+        self.pinned = with_leaf(pinned, leaf);
+        self.by_name[k].pin = Some(leaf);
+    }
+
+    /// No pin of the operator at a place.
+    pub fn unpin(&mut self, k: usize)
+        requires { k < length self.old }
+        ensures { self.new ≡ slice_set self.old k (record (operator_at self.old k) { pin = None }) }
+    {
+        self.pinned = without_pin(self.pinned, self.by_name[k].pin);
+        self.by_name[k].pin = None;
     }
 
     /// Takes the operator at a place away; those behind it close up.
@@ -179,6 +213,7 @@ impl Operators {
         requires { k < length self.old }
         ensures { self.new ≡ remove self.old k }
     {
+        self.pinned = without_pin(self.pinned, self.by_name[k].pin);
         self.by_name.shift_remove_index(k);
     }
 }

@@ -13,11 +13,14 @@ use Rattle.pld_base.specs.declared.event.Side.TheVariants.{In, Out}
 use Rattle.pld_graph.specs.declared.parts.Cut.{Cut}
 use Rattle.pld_graph.specs.declared.parts.Cut.TheVariants.{Port, Host}
 use Rattle.pld_script.specs.Words.{words_of, are_only}
-use Rattle.pld_script.specs.Numbers.{word_in, short_number_in}
+use Rattle.pld_script.specs.Numbers.{word_in, short_number_in, depth_in}
 use Rattle.pld_script.specs.declared.line.LineKind.{LineKind}
 use Rattle.pld_script.specs.declared.line.LineKind.TheVariants.{Skipped, Opens, Single}
 use Rattle.pld_script.specs.declared.statement.Statement.{Statement}
-use Rattle.pld_script.specs.declared.statement.Statement.TheVariants.{Op, Replace, Remove, Connect, Disconnect, Input, Output, Pin, Unpin, Pages, Feed, Clear, Build, Run, DumpImage, Quit}
+use Rattle.pld_script.specs.declared.statement.Statement.TheVariants as says
+use Rattle.pld_script.specs.declared.statement.Statement.TheVariants.{Build, Run, DumpImage, Quit}
+use Rattle.pld_script.specs.declared.statement.Edit.{Edit}
+use Rattle.pld_script.specs.declared.statement.Edit.TheVariants.{Op, Replace, Remove, Connect, Disconnect, Input, Output, Pin, Unpin, Pages, Feed, Clear}
 
 -- a comment's first word, which begins with `#`
 abbrev pub starts_comment : List ℕ → Bool
@@ -76,10 +79,10 @@ port_of name tail = None
 abbrev pub port_in : List ℕ → Option End
 port_in word = port_of (take (length word - 3) word) (drop (length word - 3) word)
 
--- a number of pages: 1 to 6
+-- the depth of a tree: 1 to 6
 abbrev pub page_count_of : Option ℕ → Option ℕ
 page_count_of None = None
-page_count_of (Some n) = if nat_le 1 n && nat_le n 6 then Some n else None
+page_count_of (Some n) = depth_in n
 
 abbrev pub page_count_in : List ℕ → Option ℕ
 page_count_in word = page_count_of (short_number_in word)
@@ -114,40 +117,40 @@ only_name_in (name ∷ []) = name_in name
 only_name_in words = None
 
 -- the words behind `remove`: NAME
-abbrev pub remove_in : List (List ℕ) → Option Statement
+abbrev pub remove_in : List (List ℕ) → Option Edit
 remove_in words = option_map Remove (only_name_in words)
 
 -- the words behind `connect`: PORT PORT
-abbrev pub connect_in : List (List ℕ) → Option Statement
+abbrev pub connect_in : List (List ℕ) → Option Edit
 connect_in (from ∷ to ∷ []) = of_both Connect (port_in from) (port_in to)
 connect_in words = None
 
 -- the words behind `disconnect`: PORT, or NAME
-abbrev pub disconnect_in : List (List ℕ) → Option Statement
+abbrev pub disconnect_in : List (List ℕ) → Option Edit
 disconnect_in (what ∷ []) = option_map Disconnect (cut_in what)
 disconnect_in words = None
 
 -- the words behind `input`: NAME PORT
-abbrev pub input_in : List (List ℕ) → Option Statement
+abbrev pub input_in : List (List ℕ) → Option Edit
 input_in (name ∷ port ∷ []) = of_both Input (name_in name) (port_in port)
 input_in words = None
 
 -- the words behind `output`: PORT NAME
-abbrev pub output_in : List (List ℕ) → Option Statement
+abbrev pub output_in : List (List ℕ) → Option Edit
 output_in (port ∷ name ∷ []) = of_both Output (port_in port) (name_in name)
 output_in words = None
 
 -- the words behind `pin`: NAME NUMBER
-abbrev pub pin_in : List (List ℕ) → Option Statement
+abbrev pub pin_in : List (List ℕ) → Option Edit
 pin_in (name ∷ leaf ∷ []) = of_both Pin (name_in name) (short_number_in leaf)
 pin_in words = None
 
 -- the words behind `unpin`: NAME
-abbrev pub unpin_in : List (List ℕ) → Option Statement
+abbrev pub unpin_in : List (List ℕ) → Option Edit
 unpin_in words = option_map Unpin (only_name_in words)
 
 -- the words behind `pages`: NUMBER
-abbrev pub pages_in : List (List ℕ) → Option Statement
+abbrev pub pages_in : List (List ℕ) → Option Edit
 pages_in (count ∷ []) = option_map Pages (page_count_in count)
 pages_in words = None
 
@@ -163,12 +166,12 @@ numbers_in [] = Some []
 numbers_in (word ∷ words) = with_number (word_in word) (numbers_in words)
 
 -- the words behind `feed`: NAME { WORD }
-abbrev pub feed_in : List (List ℕ) → Option Statement
+abbrev pub feed_in : List (List ℕ) → Option Edit
 feed_in [] = None
 feed_in (name ∷ words) = of_both Feed (name_in name) (numbers_in words)
 
 -- the words behind `clear`: NAME
-abbrev pub clear_in : List (List ℕ) → Option Statement
+abbrev pub clear_in : List (List ℕ) → Option Edit
 clear_in words = option_map Clear (only_name_in words)
 
 -- nothing stands behind a statement's only word
@@ -190,8 +193,8 @@ order_in first words =
     else if bytes_eq first (codes "quit") then alone Quit words
     else None
 
--- edits of the design, and orders
-abbrev pub edit_in : List ℕ → List (List ℕ) → Option Statement
+-- edits that stand in one line, but `feed`, by their first word and those behind it
+abbrev pub edit_in : List ℕ → List (List ℕ) → Option Edit
 edit_in first words =
     if bytes_eq first (codes "remove") then remove_in words
     else if bytes_eq first (codes "connect") then connect_in words
@@ -201,37 +204,48 @@ edit_in first words =
     else if bytes_eq first (codes "pin") then pin_in words
     else if bytes_eq first (codes "unpin") then unpin_in words
     else if bytes_eq first (codes "pages") then pages_in words
-    else order_in first words
+    else if bytes_eq first (codes "clear") then clear_in words
+    else None
+
+-- the edit, or else an order
+abbrev pub or_order : Option Edit → List ℕ → List (List ℕ) → Option Statement
+or_order (Some edit) first words = Some (says.Edit edit)
+or_order None first words = order_in first words
+
+-- what a line with this first word says, and these behind it
+abbrev pub said_in : List ℕ → List (List ℕ) → Option Statement
+said_in first words = if bytes_eq first (codes "feed") then option_map says.Edit (feed_in words) else or_order (edit_in first words) first words
 
 -- the statement of a line with these words, None where it is in no statement's grammar
 abbrev pub statement_in : List (List ℕ) → Option Statement
 statement_in [] = None
-statement_in (first ∷ words) =
-    if bytes_eq first (codes "feed") then feed_in words
-    else if bytes_eq first (codes "clear") then clear_in words
-    else edit_in first words
+statement_in (first ∷ words) = said_in first words
 
 -- the statement of a line that opens no text, None for a bad line
 abbrev pub line_statement : List ℕ → Option Statement
 line_statement line = statement_in (words_of line)
 
 -- the words behind `op`: NAME KIND
-abbrev pub op_in : List (List ℕ) → List ℕ → Option Statement
+abbrev pub op_in : List (List ℕ) → List ℕ → Option Edit
 op_in (name ∷ kind ∷ []) text = of_both (λ n k. Op n k text) (name_in name) (page_kind_in kind)
 op_in words text = None
 
 -- the words behind `replace`: NAME KIND
-abbrev pub replace_in : List (List ℕ) → List ℕ → Option Statement
+abbrev pub replace_in : List (List ℕ) → List ℕ → Option Edit
 replace_in (name ∷ kind ∷ []) text = of_both (λ n k. Replace n k text) (name_in name) (page_kind_in kind)
 replace_in words text = None
+
+-- the edit of a line with this first word, of those behind it and of the text that the line opens
+abbrev pub edit_with : List ℕ → List (List ℕ) → List ℕ → Option Edit
+edit_with first words text =
+    if bytes_eq first (codes "op") then op_in words text
+    else if bytes_eq first (codes "replace") then replace_in words text
+    else None
 
 -- the statement of a line with these words and of the text that it opens, None where they are in no statement's grammar
 abbrev pub statement_with : List (List ℕ) → List ℕ → Option Statement
 statement_with [] text = None
-statement_with (first ∷ words) text =
-    if bytes_eq first (codes "op") then op_in words text
-    else if bytes_eq first (codes "replace") then replace_in words text
-    else None
+statement_with (first ∷ words) text = option_map says.Edit (edit_with first words text)
 
 -- the statement of a line that opens a text, with the bytes of that text, None for a bad line
 abbrev pub text_statement : List ℕ → List ℕ → Option Statement

@@ -3,3 +3,4 @@ pub mod Words
 pub mod Numbers
 pub mod Grammar
 pub mod Statements
+pub mod Edits

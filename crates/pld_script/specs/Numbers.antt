@@ -43,6 +43,10 @@ negative_of (Some n) = if nat_le n (2 ^ 31) then Some (negated n) else None
 abbrev pub short_number_in : List ℕ → Option ℕ
 short_number_in word = if nat_le (length word) 3 then number_in 10 word else None
 
+-- the depth of a tree: 1 to 6
+abbrev pub depth_in : ℕ → Option ℕ
+depth_in n = if nat_le 1 n && nat_le n 6 then Some n else None
+
 -- one to eight hexadecimal digits, whose value is below 2^32
 abbrev pub hexadecimal_in : List ℕ → Option ℕ
 hexadecimal_in digits = if nat_le (length digits) 8 then unsigned_of (number_in 16 digits) else None

@@ -1,12 +1,14 @@
 //! What the words of a line say.
 
 ghost use Rattle.std.specs.Prelude.{◌≡◌, ◌+◌, IfOk, MatchOption, None, ◌∷◌, [], length};
+ghost use Rattle.std.specs.Option.{option_map};
+ghost use Rattle.pld_script.specs.declared.statement.Statement.TheVariants as says;
 ghost use Rattle.pld_script.specs.Words.{words_of};
-ghost use Rattle.pld_script.specs.Grammar.{page_kind_in, side_in, port_number_in, port_of as port_at, port_in, page_count_in, has_dot as holds_dot, cut_in, only_in, two_in, only_name_in, connect_in, disconnect_in, input_in, output_in, pin_in, pages_in, numbers_in, feed_in, alone as alone_in, clear_in, remove_in, unpin_in, dump_in, order_in, edit_in, statement_in, op_in, replace_in, line_statement, text_statement};
+ghost use Rattle.pld_script.specs.Grammar.{page_kind_in, side_in, port_number_in, port_of as port_at, port_in, page_count_in, has_dot as holds_dot, cut_in, only_in, two_in, only_name_in, connect_in, disconnect_in, input_in, output_in, pin_in, pages_in, numbers_in, feed_in, alone as alone_in, clear_in, remove_in, unpin_in, dump_in, order_in, edit_in, said_in, statement_in, op_in, replace_in, edit_with, line_statement, text_statement};
 
 use super::line::split_word;
 use super::number::{short_number_of, word_of};
-use super::{Statement, Text, WordList};
+use super::{Depth, Edit, Statement, Text, WordList};
 use pld_base::{End, Kind, Name, NoMemory, PortNo, Side};
 use pld_graph::Cut;
 use std::alloc::Global;
@@ -64,14 +66,11 @@ fn port_of(word: &[u8]) -> Option<End>
     port_behind(name, tail)
 }
 
-/// A number of pages, from 1 to 6.
-fn page_count_of(word: &[u8]) -> Option<u8>
+/// The depth of a tree, from 1 to 6.
+fn page_count_of(word: &[u8]) -> Option<Depth>
     ensures { result ≡ page_count_in word.now }
 {
-    match short_number_of(word)? {
-        count @ 1..=6 => Some(count as u8),
-        _ => None,
-    }
+    Depth::of(short_number_of(word)?)
 }
 
 fn has_dot(word: &[u8]) -> bool
@@ -121,56 +120,56 @@ fn only_name(line: &[u8]) -> Option<Name>
     Name::of(only_word(line)?)
 }
 
-fn remove_of(line: &[u8]) -> Option<Statement>
+fn remove_of(line: &[u8]) -> Option<Edit>
     ensures { result ≡ remove_in (words_of line.now) }
 {
-    Some(Statement::Remove(only_name(line)?))
+    Some(Edit::Remove(only_name(line)?))
 }
 
-fn connect_of(line: &[u8]) -> Option<Statement>
+fn connect_of(line: &[u8]) -> Option<Edit>
     ensures { result ≡ connect_in (words_of line.now) }
 {
     let (from, to) = two_words(line)?;
-    Some(Statement::Connect(port_of(from)?, port_of(to)?))
+    Some(Edit::Connect(port_of(from)?, port_of(to)?))
 }
 
-fn disconnect_of(line: &[u8]) -> Option<Statement>
+fn disconnect_of(line: &[u8]) -> Option<Edit>
     ensures { result ≡ disconnect_in (words_of line.now) }
 {
-    Some(Statement::Disconnect(cut_of(only_word(line)?)?))
+    Some(Edit::Disconnect(cut_of(only_word(line)?)?))
 }
 
-fn input_of(line: &[u8]) -> Option<Statement>
+fn input_of(line: &[u8]) -> Option<Edit>
     ensures { result ≡ input_in (words_of line.now) }
 {
     let (name, port) = two_words(line)?;
-    Some(Statement::Input(Name::of(name)?, port_of(port)?))
+    Some(Edit::Input(Name::of(name)?, port_of(port)?))
 }
 
-fn output_of(line: &[u8]) -> Option<Statement>
+fn output_of(line: &[u8]) -> Option<Edit>
     ensures { result ≡ output_in (words_of line.now) }
 {
     let (port, name) = two_words(line)?;
-    Some(Statement::Output(port_of(port)?, Name::of(name)?))
+    Some(Edit::Output(port_of(port)?, Name::of(name)?))
 }
 
-fn pin_of(line: &[u8]) -> Option<Statement>
+fn pin_of(line: &[u8]) -> Option<Edit>
     ensures { result ≡ pin_in (words_of line.now) }
 {
     let (name, leaf) = two_words(line)?;
-    Some(Statement::Pin(Name::of(name)?, short_number_of(leaf)?))
+    Some(Edit::Pin(Name::of(name)?, short_number_of(leaf)?))
 }
 
-fn unpin_of(line: &[u8]) -> Option<Statement>
+fn unpin_of(line: &[u8]) -> Option<Edit>
     ensures { result ≡ unpin_in (words_of line.now) }
 {
-    Some(Statement::Unpin(only_name(line)?))
+    Some(Edit::Unpin(only_name(line)?))
 }
 
-fn pages_of(line: &[u8]) -> Option<Statement>
+fn pages_of(line: &[u8]) -> Option<Edit>
     ensures { result ≡ pages_in (words_of line.now) }
 {
-    Some(Statement::Pages(page_count_of(only_word(line)?)?))
+    Some(Edit::Pages(page_count_of(only_word(line)?)?))
 }
 
 /// The values of the words of the line. None where one is no number.
@@ -189,7 +188,7 @@ fn numbers_of(alloc: Global, line: &[u8]) -> Result<Option<WordList>, NoMemory>
     Ok(Some(WordList::of(numbers)))
 }
 
-fn feed_of(alloc: Global, line: &[u8]) -> Result<Option<Statement>, NoMemory>
+fn feed_of(alloc: Global, line: &[u8]) -> Result<Option<Edit>, NoMemory>
     ensures { IfOk result (λ said. said ≡ feed_in (words_of line.now)) }
 {
     let Some((word, rest)) = split_word(line) else {
@@ -200,14 +199,14 @@ fn feed_of(alloc: Global, line: &[u8]) -> Result<Option<Statement>, NoMemory>
     };
     match numbers_of(alloc, rest)? {
         None => Ok(None),
-        Some(numbers) => Ok(Some(Statement::Feed(name, numbers))),
+        Some(numbers) => Ok(Some(Edit::Feed(name, numbers))),
     }
 }
 
-fn clear_of(line: &[u8]) -> Option<Statement>
+fn clear_of(line: &[u8]) -> Option<Edit>
     ensures { result ≡ clear_in (words_of line.now) }
 {
-    Some(Statement::Clear(only_name(line)?))
+    Some(Edit::Clear(only_name(line)?))
 }
 
 /// The statement, where no word stands in the line.
@@ -248,8 +247,8 @@ fn order_of(first: &[u8], rest: &[u8]) -> Option<Statement>
     }
 }
 
-/// An edit of the design, or an order, whose first word is this one, with this behind it.
-fn edit_of(first: &[u8], rest: &[u8]) -> Option<Statement>
+/// An edit whose first word is this one, with this behind it.
+fn edit_of(first: &[u8], rest: &[u8]) -> Option<Edit>
     ensures { result ≡ edit_in first.now (words_of rest.now) }
 {
     if first == b"remove".as_slice() {
@@ -268,21 +267,30 @@ fn edit_of(first: &[u8], rest: &[u8]) -> Option<Statement>
         unpin_of(rest)
     } else if first == b"pages".as_slice() {
         pages_of(rest)
+    } else if first == b"clear".as_slice() {
+        clear_of(rest)
     } else {
-        order_of(first, rest)
+        None
     }
+}
+
+/// The edit, as a statement.
+fn edited(edit: Option<Edit>) -> Option<Statement>
+    ensures { result ≡ option_map says.Edit edit }
+{
+    Some(Statement::Edit(edit?))
 }
 
 /// What a line says whose first word is this one, with this behind it.
 fn said_behind(alloc: Global, first: &[u8], rest: &[u8]) -> Result<Option<Statement>, NoMemory>
-    ensures { IfOk result (λ said. said ≡ statement_in (first.now ∷ words_of rest.now)) }
+    ensures { IfOk result (λ said. said ≡ said_in first.now (words_of rest.now)) }
 {
     if first == b"feed".as_slice() {
-        feed_of(alloc, rest)
-    } else if first == b"clear".as_slice() {
-        Ok(clear_of(rest))
-    } else {
-        Ok(edit_of(first, rest))
+        return Ok(edited(feed_of(alloc, rest)?));
+    }
+    match edit_of(first, rest) {
+        Some(edit) => Ok(Some(Statement::Edit(edit))),
+        None => Ok(order_of(first, rest)),
     }
 }
 
@@ -296,25 +304,23 @@ pub fn said_by(alloc: Global, line: &[u8]) -> Result<Option<Statement>, NoMemory
     }
 }
 
-fn op_of(line: &[u8], text: Vec<u8>) -> Option<Statement>
+fn op_of(line: &[u8], text: Vec<u8>) -> Option<Edit>
     ensures { result ≡ op_in (words_of line.now) text.items }
 {
     let (name, kind) = two_words(line)?;
-    Some(Statement::Op(Name::of(name)?, page_kind_of(kind)?, Text::of(text)))
+    Some(Edit::Op(Name::of(name)?, page_kind_of(kind)?, Text::of(text)))
 }
 
-fn replace_of(line: &[u8], text: Vec<u8>) -> Option<Statement>
+fn replace_of(line: &[u8], text: Vec<u8>) -> Option<Edit>
     ensures { result ≡ replace_in (words_of line.now) text.items }
 {
     let (name, kind) = two_words(line)?;
-    Some(Statement::Replace(Name::of(name)?, page_kind_of(kind)?, Text::of(text)))
+    Some(Edit::Replace(Name::of(name)?, page_kind_of(kind)?, Text::of(text)))
 }
 
-/// What a line that opens a text says, with its text. None where it is in no statement's grammar.
-pub fn said_with(head: &[u8], text: Vec<u8>) -> Option<Statement>
-    ensures { result ≡ text_statement head.now text.items }
+fn edit_with_text(first: &[u8], rest: &[u8], text: Vec<u8>) -> Option<Edit>
+    ensures { result ≡ edit_with first.now (words_of rest.now) text.items }
 {
-    let (first, rest) = split_word(head)?;
     if first == b"op".as_slice() {
         op_of(rest, text)
     } else if first == b"replace".as_slice() {
@@ -322,4 +328,12 @@ pub fn said_with(head: &[u8], text: Vec<u8>) -> Option<Statement>
     } else {
         None
     }
+}
+
+/// What a line that opens a text says, with its text. None where it is in no statement's grammar.
+pub fn said_with(head: &[u8], text: Vec<u8>) -> Option<Statement>
+    ensures { result ≡ text_statement head.now text.items }
+{
+    let (first, rest) = split_word(head)?;
+    edited(edit_with_text(first, rest, text))
 }

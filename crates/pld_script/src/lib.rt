@@ -1,6 +1,7 @@
 //! The statements of a session's text: its lines, the words of a line, and what they say.
 #![tactic(auto)]
 
+mod depth;
 mod grammar;
 mod laws;
 mod line;
@@ -12,9 +13,10 @@ mod statement;
 mod tests;
 mod text;
 
+pub use depth::Depth;
 pub use laws::firsts_are_one;
 pub use line::LineKind;
 pub use next::{Found, Next, Skipped, next_statement};
 pub use scan::Scan;
-pub use statement::Statement;
+pub use statement::{Edit, Statement};
 pub use text::{Text, WordList};

@@ -1,12 +1,15 @@
 //! What a statement says.
 
-use super::{Text, WordList};
+ghost use Rattle.std.specs.Prelude.{◌≡◌};
+ghost use Rattle.pld_script.specs.Edits.{is_of_words as is_of_words_of};
+
+use super::{Depth, Text, WordList};
 use pld_base::{End, Kind, Name};
 use pld_graph::Cut;
 
-/// A statement of a session's text.
+/// An edit of the design, or of the words of its inputs.
 #[derive(Drop)]
-pub enum Statement {
+pub enum Edit {
     /// `op NAME KIND`: an operator, with its text: the bytes of its lines, each with a line end (byte 10).
     Op(Name, Kind, Text),
     /// `replace NAME KIND`: the operator of this name gets another kind and text.
@@ -26,12 +29,32 @@ pub enum Statement {
     Pin(Name, u16),
     /// `unpin NAME`: the operator may stand at any leaf.
     Unpin(Name),
-    /// `pages NUMBER`: the depth of the tree, 1 to 6: it has two to the power of that many leaves.
-    Pages(u8),
+    /// `pages NUMBER`: the depth of the tree: it has two to the power of that many leaves.
+    Pages(Depth),
     /// `feed NAME { WORD }`: words for an input. There may be none.
     Feed(Name, WordList),
     /// `clear NAME`: the words that were fed to this input go.
     Clear(Name),
+}
+
+impl Edit {
+    /// Whether it edits the words of an input, and not the design.
+    pub fn is_of_words(&self) -> bool
+        ensures { result ≡ is_of_words_of self.now }
+    {
+        match self {
+            Edit::Feed(_, _) => true,
+            Edit::Clear(_) => true,
+            _ => false,
+        }
+    }
+}
+
+/// A statement of a session's text.
+#[derive(Drop)]
+pub enum Statement {
+    /// An edit.
+    Edit(Edit),
     /// `build`
     Build,
     /// `run`

@@ -1,6 +1,6 @@
 //! Lines, and what each says, written by hand.
 
-use crate::{Next, Statement, next_statement};
+use crate::{Edit, Next, Statement, next_statement};
 use pld_base::{End, Kind, Name, NoMemory, Side};
 use pld_graph::Cut;
 use std::alloc::Global;
@@ -40,69 +40,69 @@ fn put_number(out: &mut Vec<u8>, alloc: Global, n: u32) -> Result<(), NoMemory> 
     put_word(out, digits.as_bytes())
 }
 
-/// What the statement does to a design, in words.
-fn put_edit(out: &mut Vec<u8>, alloc: Global, statement: &Statement) -> Result<(), NoMemory> {
-    match statement {
-        Statement::Remove(name) => {
+/// What the edit does to channels and pins, in words.
+fn put_change(out: &mut Vec<u8>, alloc: Global, edit: &Edit) -> Result<(), NoMemory> {
+    match edit {
+        Edit::Remove(name) => {
             put_word(out, b"remove")?;
             put_name(out, name)
         }
-        Statement::Connect(from, to) => {
+        Edit::Connect(from, to) => {
             put_word(out, b"connect")?;
             put_port(out, from)?;
             put_port(out, to)
         }
-        Statement::Disconnect(Cut::Port(end)) => {
+        Edit::Disconnect(Cut::Port(end)) => {
             put_word(out, b"disconnect the port")?;
             put_port(out, end)
         }
-        Statement::Disconnect(Cut::Host(name)) => {
+        Edit::Disconnect(Cut::Host(name)) => {
             put_word(out, b"disconnect the host's")?;
             put_name(out, name)
         }
-        Statement::Input(name, to) => {
+        Edit::Input(name, to) => {
             put_word(out, b"input")?;
             put_name(out, name)?;
             put_port(out, to)
         }
-        Statement::Output(from, name) => {
+        Edit::Output(from, name) => {
             put_word(out, b"output")?;
             put_port(out, from)?;
             put_name(out, name)
         }
-        Statement::Pin(name, leaf) => {
+        Edit::Pin(name, leaf) => {
             put_word(out, b"pin")?;
             put_name(out, name)?;
             put_number(out, alloc, u32::from(*leaf))
         }
-        Statement::Unpin(name) => {
+        Edit::Unpin(name) => {
             put_word(out, b"unpin")?;
             put_name(out, name)
         }
-        Statement::Pages(count) => {
+        Edit::Pages(count) => {
             put_word(out, b"pages")?;
-            put_number(out, alloc, u32::from(*count))
+            put_number(out, alloc, u32::from(count.levels()))
         }
         _ => Ok(()),
     }
 }
 
-/// What the statement says, in words: those of an edit, or else these.
-fn put_statement(out: &mut Vec<u8>, alloc: Global, statement: &Statement) -> Result<(), NoMemory> {
-    match statement {
-        Statement::Op(name, kind, text) => {
+/// What the edit does, in words.
+fn put_edit(out: &mut Vec<u8>, alloc: Global, edit: &Edit) -> Result<(), NoMemory> {
+    match edit {
+        Edit::Op(name, kind, text) => {
             put_word(out, b"op")?;
             put_name(out, name)?;
             put_kind(out, *kind)?;
             put_word(out, text.as_slice())
         }
-        Statement::Replace(name, kind, text) => {
+        Edit::Replace(name, kind, text) => {
             put_word(out, b"replace")?;
             put_name(out, name)?;
             put_kind(out, *kind)?;
             put_word(out, text.as_slice())
         }
-        Statement::Feed(name, words) => {
+        Edit::Feed(name, words) => {
             put_word(out, b"feed")?;
             put_name(out, name)?;
             for n in words.as_slice() {
@@ -110,18 +110,25 @@ fn put_statement(out: &mut Vec<u8>, alloc: Global, statement: &Statement) -> Res
             }
             Ok(())
         }
-        Statement::Clear(name) => {
+        Edit::Clear(name) => {
             put_word(out, b"clear")?;
             put_name(out, name)
         }
+        change => put_change(out, alloc, change),
+    }
+}
+
+/// What the statement says, in words.
+fn put_statement(out: &mut Vec<u8>, alloc: Global, statement: &Statement) -> Result<(), NoMemory> {
+    match statement {
+        Statement::Edit(edit) => put_edit(out, alloc, edit),
+        Statement::Build => put_word(out, b"build"),
+        Statement::Run => put_word(out, b"run"),
         Statement::DumpImage(name) => {
             put_word(out, b"dump image")?;
             put_name(out, name)
         }
-        Statement::Build => put_word(out, b"build"),
-        Statement::Run => put_word(out, b"run"),
         Statement::Quit => put_word(out, b"quit"),
-        edit => put_edit(out, alloc, edit),
     }
 }
 

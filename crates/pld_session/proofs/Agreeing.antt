@@ -50,18 +50,7 @@ runs_agrees st number false one = tt
 
 answer_agrees : (st : State) (number : ℕ) (said : Option Statement) → OnePlain → Agrees st (answer_to st number said)
 answer_agrees st number None one = tt
-answer_agrees st number (Some (says.Op name kind text)) one = tt
-answer_agrees st number (Some (says.Replace name kind text)) one = tt
-answer_agrees st number (Some (says.Remove name)) one = tt
-answer_agrees st number (Some (says.Connect from to)) one = tt
-answer_agrees st number (Some (says.Disconnect what)) one = tt
-answer_agrees st number (Some (says.Input name to)) one = tt
-answer_agrees st number (Some (says.Output from name)) one = tt
-answer_agrees st number (Some (says.Pin name leaf)) one = tt
-answer_agrees st number (Some (says.Unpin name)) one = tt
-answer_agrees st number (Some (says.Pages depth)) one = tt
-answer_agrees st number (Some (says.Feed name words)) one = tt
-answer_agrees st number (Some (says.Clear name)) one = tt
+answer_agrees st number (Some (says.Edit edit)) one = tt
 answer_agrees st number (Some says.Build) one = tt
 answer_agrees st number (Some says.Run) one = runs_agrees st number st.built one
 answer_agrees st number (Some (says.DumpImage name)) one = tt

@@ -1,70 +1,79 @@
 -- The answers to edits, joined from their parts.
-use Rattle.std.proofs.Common.{◌≡◌, ℕ, zero, suc, ◌<◌, ◌≤◌, Bool, true, false, List, [], ◌∷◌, length, map, arith, Option, Some, None, Result, Ok, Err, refl, sym, ap, ◌∙◌, subst}
-use Rattle.std.specs.Prelude.{is_some, IfSome, IfOk, slice_index_or, if◌then◌else◌}
-use Rattle.pld_base.specs.declared.memory.Refused.{Refused}
-use Rattle.pld_base.specs.declared.memory.Refused.TheVariants.{Fault, NoMemory}
+use Rattle.std.proofs.Common.{◌≡◌, ℕ, zero, suc, ◌+◌, ◌<◌, ◌≤◌, Bool, true, false, true≢false, ◌&&◌, List, [], ◌∷◌, length, map, arith, Option, Some, None, Result, Ok, Err, refl, sym, ap, ◌∙◌, subst}
+use Rattle.std.specs.Prelude.{nat_le, IfOk, slice_index_or, if◌then◌else◌}
+use Rattle.pld_script.specs.declared.statement.Edit.{Edit}
+use Rattle.pld_script.specs.declared.statement.Edit.TheVariants as says
+use Rattle.pld_script.specs.Edits.{is_of_words}
 use Rattle.pld_draft.specs.declared.parts.EditFault.{EditFault}
-use Rattle.pld_draft.specs.Draft.{DraftState}
-use Rattle.pld_draft.specs.Edits.{Edited, Tries, Makes}
+use Rattle.pld_draft.specs.declared.parts.EditFault.TheVariants.{Refused, NoMemory}
+use Rattle.pld_draft.specs.declared.parts.EditRefusal.{EditRefusal}
+use Rattle.pld_draft.specs.Draft.{DraftState, words_of}
+use Rattle.pld_draft.specs.Edits.{Edited, edited}
 use Rattle.pld_driver.specs.Walk.{Answered}
 use Rattle.pld_reply.specs.declared.refusals.Refusal.TheVariants as refusal
 use Rattle.pld_reply.specs.Replies.{image_reply}
 use Rattle.image_form.specs.Spelling.{Form, bytes_of}
 use Rattle.direct_world.specs.Plan.{no_image}
-use Rattle.pld_graph.specs.Design.{Design, place_of}
+use Rattle.pld_graph.specs.Design.{Design, place_of, is_input}
 use Rattle.pld_graph.specs.Sound.{IsSound}
 use Rattle.pld_draft.specs.declared.parts.Source.{Source}
 use Rattle.pld_draft.specs.Draft.{IsKept, entry_ports, source_ports}
 use Rattle.pld_build.specs.Images.{image_of}
-use Rattle.pld_session.specs.Answers.{edits, feeds, dumps, dumps_at, refuses}
+use Rattle.pld_session.specs.Answers.{edits, edits_to, dumps, dumps_at, refuses}
 use Rattle.pld_session.specs.States.{State, IsBuild, images}
-use Rattle.pld_session.specs.Steps.{Tells, TellsEdit, AfterEdit, as_tried}
+use Rattle.pld_session.specs.Steps.{Tells, TellsEdit, Makes}
 
--- an edit that takes no memory is one that might
-pub makes_tries : {X : Type 0} (done : Result X EditFault) (edited : Edited) (old new : DraftState) → Makes done edited old new → Tries (as_tried done) edited old new
-makes_tries (Ok x) edited old new h = h
-makes_tries (Err f) edited old new h = h
+-- the answer to an edit
+pub edit_told : {X : Type 0} (done : Result X EditFault) (edit : Edit) (st : State) (number : ℕ) (reply : List ℕ) (refused : Bool) (next : State)
+    → Makes done edit st next → TellsEdit number done reply refused → Tells (edits st number edit) reply refused next
+edit_told (Ok x) edit st number reply refused next made told =
+    subst (λ e. Tells (edits_to st number (is_of_words edit && st.built) e) reply refused next) (sym made.0) (told.0, told.1, made.1)
+edit_told (Err (Refused why)) edit st number reply refused next made told =
+    subst (λ e. Tells (edits_to st number (is_of_words edit && st.built) e) reply refused next) (sym made.0) (told.0, told.1, made.1)
+edit_told (Err NoMemory) edit st number reply refused next made told = absurd told
 
--- the answer to an edit of the design
-pub edit_told : {X Y : Type 0} (done : Result X (Refused EditFault)) (edited : Edited) (st : State) (number : ℕ) (draft : DraftState) (old new : Option Y) (reply : List ℕ) (refused : Bool) (next : State)
-    → Tries done edited st.draft draft → TellsEdit number done reply refused → AfterEdit done old new → st.built ≡ is_some old
-    → next ≡ record st { draft = draft; built = is_some new } → Tells (edits st number edited) reply refused next
-edit_told (Ok x) edited st number draft old new reply refused next tries told after was is =
-    let state : next ≡ record st { draft = draft; built = false } = is ∙ ap (λ (b : Bool). record st { draft = draft; built = b }) (ap is_some after) in
-    subst (λ e. Tells (edits st number e) reply refused next) (sym tries) (told.0, told.1, state)
-edit_told (Err (Fault f)) edited st number draft old new reply refused next tries told after was is =
-    let state : next ≡ st = is ∙ ap (λ (d : DraftState). record st { draft = d; built = is_some new }) tries.1 ∙ ap (λ (b : Bool). record st { built = b }) (ap is_some after ∙ sym was) in
-    subst (λ e. Tells (edits st number e) reply refused next) (sym tries.0) (told.0, told.1, state)
-edit_told (Err NoMemory) edited st number draft old new reply refused next tries told after was is = absurd told
+abbrev known : DraftState → Edited → DraftState
+known d (Ok new) = new
+known d (Err why) = d
 
--- the answer to an edit of an input's words
-pub feed_told : {X : Type 0} (done : Result X (Refused EditFault)) (edited : Edited) (st : State) (number : ℕ) (draft : DraftState) (reply : List ℕ) (refused : Bool) (next : State)
-    → Tries done edited st.draft draft → TellsEdit number done reply refused → next ≡ record st { draft = draft } → Tells (feeds st number edited) reply refused next
-feed_told (Ok x) edited st number draft reply refused next tries told is = subst (λ e. Tells (feeds st number e) reply refused next) (sym tries) (told.0, told.1, is)
-feed_told (Err (Fault f)) edited st number draft reply refused next tries told is =
-    subst (λ e. Tells (feeds st number e) reply refused next) (sym tries.0) (told.0, told.1, is ∙ ap (λ (d : DraftState). record st { draft = d }) tries.1)
-feed_told (Err NoMemory) edited st number draft reply refused next tries told is = absurd told
+abbrev is_made : Edited → Bool
+is_made (Ok new) = true
+is_made (Err why) = false
 
--- what holds of the images of a build, behind an edit
-pub edit_kept : {X Y : Type 0} (P : DraftState → Y → Type 0) (done : Result X (Refused EditFault)) (edited : Edited) (old_draft new_draft : DraftState) (old new : Option Y)
-    → Tries done edited old_draft new_draft → AfterEdit done old new → IfSome old (P old_draft) → IfSome new (P new_draft)
-edit_kept P (Ok x) edited old_draft new_draft old new tries after h = subst (λ o. IfSome o (P new_draft)) (sym after) tt
-edit_kept P (Err (Fault f)) edited old_draft new_draft old new tries after h = subst (λ d. IfSome new (P d)) (sym tries.1) (subst (λ o. IfSome o (P old_draft)) (sym after) h)
-edit_kept P (Err NoMemory) edited old_draft new_draft old new tries after h = subst (λ d. IfSome new (P d)) (sym tries) (subst (λ o. IfSome o (P old_draft)) (sym after) h)
+-- an edit that is made where a test holds
+if_made : (b : Bool) (d made new : DraftState) (why : EditRefusal) → (if b then Ok made else Err why) ≡ Ok new → made.sources ≡ d.sources → new.sources ≡ d.sources
+if_made true d made new why e same = ap (λ (x : Edited). (known d x).sources) (sym e) ∙ same
+if_made false d made new why e same = absurd (true≢false (sym (ap is_made e)))
+
+if_both : (b c : Bool) (d made new : DraftState) (why other : EditRefusal) → (if b then (if c then Ok made else Err why) else Err other) ≡ Ok new → made.sources ≡ d.sources → new.sources ≡ d.sources
+if_both true c d made new why other e same = if_made c d made new why e same
+if_both false c d made new why other e same = absurd (true≢false (sym (ap is_made e)))
+
+-- other words of an input leave the operators' sources
+sources_stay : (edit : Edit) (d new : DraftState) → is_of_words edit ≡ true → edited edit d ≡ Ok new → new.sources ≡ d.sources
+sources_stay (says.Op name kind text) d new w e = absurd (true≢false (sym w))
+sources_stay (says.Replace name kind text) d new w e = absurd (true≢false (sym w))
+sources_stay (says.Remove name) d new w e = absurd (true≢false (sym w))
+sources_stay (says.Connect from to) d new w e = absurd (true≢false (sym w))
+sources_stay (says.Disconnect what) d new w e = absurd (true≢false (sym w))
+sources_stay (says.Input name to) d new w e = absurd (true≢false (sym w))
+sources_stay (says.Output from name) d new w e = absurd (true≢false (sym w))
+sources_stay (says.Pin name leaf) d new w e = absurd (true≢false (sym w))
+sources_stay (says.Unpin name) d new w e = absurd (true≢false (sym w))
+sources_stay (says.Pages depth) d new w e = absurd (true≢false (sym w))
+sources_stay (says.Feed name words) d new w e = if_both (is_input name d.design.channels) (nat_le (length (words_of name d.feeds) + length words) 65536) d _ new _ _ e refl
+sources_stay (says.Clear name) d new w e = if_made (is_input name d.design.channels) d _ new _ e refl
+
+-- a build stays one behind an edit of an input's words
+pub build_stays : (edit : Edit) (d new : DraftState) (made : List Form) → is_of_words edit ≡ true → edited edit d ≡ Ok new → IsBuild d made → IsBuild new made
+build_stays edit d new made w e b =
+    let same = sources_stay edit d new w e in
+    record { same = b.same ∙ ap (map image_of) (sym same); an_operator = subst (λ ss. 1 ≤ length ss) (sym same) b.an_operator }
 
 any_default : {X : Type 0} (xs : List X) (k : ℕ) (x y : X) → k < length xs → slice_index_or xs k x ≡ slice_index_or xs k y
 any_default [] k x y l = absurd (omega (arith, l))
 any_default (z ∷ zs) zero x y l = refl
 any_default (z ∷ zs) (suc k) x y l = any_default zs k x y (omega (arith, l))
-
--- the same, where the state is the one that a session's fields tell
-pub told_edit : {X Y : Type 0} (edit : DraftState → Edited) (st : State) (rounds runs number : ℕ) (draft new_draft : DraftState) (old new : Option Y) (done : Result X (Refused EditFault)) (reply : List ℕ) (refused : Bool)
-    → st ≡ record { rounds = rounds; draft = draft; built = is_some old; runs = runs } → Tries done (edit draft) draft new_draft → TellsEdit number done reply refused → AfterEdit done old new
-    → Tells (edits st number (edit st.draft)) reply refused (record { rounds = rounds; draft = new_draft; built = is_some new; runs = runs })
-told_edit edit st rounds runs number draft new_draft old new done reply refused is tries told after =
-    let Goal : State → Type 0 = λ s. Tells (edits s number (edit s.draft)) reply refused (record { rounds = rounds; draft = new_draft; built = is_some new; runs = runs }) in
-    let here : State = record { rounds = rounds; draft = draft; built = is_some old; runs = runs } in
-    subst Goal (sym is) (edit_told done (edit draft) here number new_draft old new reply refused (record { rounds = rounds; draft = new_draft; built = is_some new; runs = runs }) tries told after refl refl)
 
 -- what holds of an answer, by what is known of it
 pub if_ok : {A E : Type 0} {P Q : A → Type 0} (r : Result A E) → ((x : A) → P x → Q x) → IfOk r P → IfOk r Q

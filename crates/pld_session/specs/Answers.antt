@@ -5,10 +5,10 @@ use Rattle.image_form.specs.Spelling.{bytes_of}
 use Rattle.direct_world.specs.Plan.{no_image}
 use Rattle.pld_graph.specs.declared.parts.GraphFault.TheVariants.{UnknownOperator}
 use Rattle.pld_graph.specs.Design.{place_of, open_port}
-use Rattle.pld_draft.specs.declared.parts.EditFault.{EditFault}
-use Rattle.pld_draft.specs.declared.parts.EditFault.TheVariants as fault
+use Rattle.pld_draft.specs.declared.parts.EditRefusal.{EditRefusal}
+use Rattle.pld_draft.specs.declared.parts.EditRefusal.TheVariants as why
 use Rattle.pld_draft.specs.Draft.{DraftState}
-use Rattle.pld_draft.specs.Edits as edit
+use Rattle.pld_draft.specs.Edits.{Edited, edited}
 use Rattle.pld_build.specs.Images.{distinct}
 use Rattle.pld_reply.specs.declared.refusals.Refusal.{Refusal}
 use Rattle.pld_reply.specs.declared.refusals.Refusal.TheVariants as refusal
@@ -17,6 +17,8 @@ use Rattle.pld_reply.specs.Replies.{ok_reply, built_reply, image_reply}
 use Rattle.direct_world.specs.declared.world.Record.{Record}
 use Rattle.pld_script.specs.declared.statement.Statement.{Statement}
 use Rattle.pld_script.specs.declared.statement.Statement.TheVariants as says
+use Rattle.pld_script.specs.declared.statement.Edit.{Edit}
+use Rattle.pld_script.specs.Edits.{is_of_words}
 use Rattle.pld_script.specs.Statements.{Placed}
 use Rattle.pld_driver.specs.Walk.{Answered, Step, Says, Runs}
 use Rattle.pld_session.specs.States.{State, images}
@@ -30,28 +32,22 @@ refuses st number why = record { reply = refused_reply number why; refused = tru
 abbrev pub accepts : State → Answered State
 accepts st = record { reply = ok_reply; refused = false; permits = 0; next = st }
 
--- ---- edits, feed and clear
+-- ---- edits
 
 -- why an edit is refused
-abbrev pub refusal_of : EditFault → Refusal
-refusal_of (fault.Graph f) = refusal.Graph f
-refusal_of (fault.Source f) = refusal.Source f
-refusal_of fault.TooManyWords = refusal.TooManyWords
+abbrev pub refusal_of : EditRefusal → Refusal
+refusal_of (why.Graph f) = refusal.Graph f
+refusal_of (why.Source f) = refusal.Source f
+refusal_of why.TooManyWords = refusal.TooManyWords
 
--- an edit is accepted even where it changes nothing, and a build is wanted behind it
-abbrev pub edits : State → ℕ → edit.Edited → Answered State
-edits st number (Ok draft) = accepts (record st { draft = draft; built = false })
-edits st number (Err f) = refuses st number (refusal_of f)
+-- an edit is accepted even where it changes nothing
+abbrev pub edits_to : State → ℕ → Bool → Edited → Answered State
+edits_to st number built (Ok draft) = accepts (record st { draft = draft; built = built })
+edits_to st number built (Err f) = refuses st number (refusal_of f)
 
--- other words of an input are no edit
-abbrev pub feeds : State → ℕ → edit.Edited → Answered State
-feeds st number (Ok draft) = accepts (record st { draft = draft })
-feeds st number (Err f) = refuses st number (refusal_of f)
-
--- a tree has a depth from 1 to 6; no statement of a text has another
-abbrev pub repages : State → ℕ → ℕ → Answered State
-repages st number depth =
-    if nat_le 1 depth && nat_le depth 6 then edits st number (edit.pages depth st.draft) else refuses st number refusal.BadLine
+-- a build is wanted behind an edit of the design, and not behind one of an input's words
+abbrev pub edits : State → ℕ → Edit → Answered State
+edits st number edit = edits_to st number (is_of_words edit && st.built) (edited edit st.draft)
 
 -- ---- build: there is an operator, every port is in a channel, and there are pages enough
 
@@ -109,18 +105,7 @@ says_nothing st = record { reply = []; refused = false; permits = 0; next = st }
 
 abbrev pub answer_to : State → ℕ → Option Statement → Step State Record
 answer_to st number None = Says (refuses st number refusal.BadLine)
-answer_to st number (Some (says.Op name kind text)) = Says (edits st number (edit.op name kind text st.draft))
-answer_to st number (Some (says.Replace name kind text)) = Says (edits st number (edit.replace name kind text st.draft))
-answer_to st number (Some (says.Remove name)) = Says (edits st number (edit.remove_operator name st.draft))
-answer_to st number (Some (says.Connect from to)) = Says (edits st number (edit.connect from to st.draft))
-answer_to st number (Some (says.Disconnect what)) = Says (edits st number (edit.disconnect what st.draft))
-answer_to st number (Some (says.Input name to)) = Says (edits st number (edit.input name to st.draft))
-answer_to st number (Some (says.Output from name)) = Says (edits st number (edit.output from name st.draft))
-answer_to st number (Some (says.Pin name leaf)) = Says (edits st number (edit.pin name leaf st.draft))
-answer_to st number (Some (says.Unpin name)) = Says (edits st number (edit.unpin name st.draft))
-answer_to st number (Some (says.Pages depth)) = Says (repages st number depth)
-answer_to st number (Some (says.Feed name words)) = Says (feeds st number (edit.feed name words st.draft))
-answer_to st number (Some (says.Clear name)) = Says (feeds st number (edit.clear name st.draft))
+answer_to st number (Some (says.Edit edit)) = Says (edits st number edit)
 answer_to st number (Some says.Build) = Says (builds st number)
 answer_to st number (Some says.Run) = runs st number
 answer_to st number (Some (says.DumpImage name)) = Says (dumps st number name)

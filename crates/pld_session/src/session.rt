@@ -1,24 +1,23 @@
 //! What a session holds, and its answers to statements.
 
 ghost use Rattle.std.specs.Prelude.{◌≡◌, ◌≤◌, ◌^◌, ◌+◌, ◌-◌, ◌<◌, [], Some, None, length, IfOk, OnErr};
-ghost use Rattle.pld_draft.specs.Edits as edit;
 ghost use Rattle.pld_graph.specs.Design.{open_port};
 ghost use Rattle.pld_session.specs.States.{at_first};
-ghost use Rattle.pld_session.specs.Answers.{answer_to, edits, feeds, repages, builds, dumps, pages as pages_of, Fits};
-ghost use Rattle.pld_session.specs.Steps.{Tells};
+ghost use Rattle.pld_session.specs.Answers.{answer_to, edits, dumps, pages as pages_of, Fits};
+ghost use Rattle.pld_session.specs.Steps.{Makes, Tells};
 ghost use Rattle.pld_driver.specs.Moments.{Took, Broke};
 
-use crate::edits::{answer_edit, answer_feed, refuse, tried};
+use crate::edits::{answer_edit, refuse};
 use crate::runs::{operator_names, output_names, reply_room, run_design};
 use direct_world::Record;
-use pld_base::{End, Kind, Name, NoMemory};
+use pld_base::{Name, NoMemory};
 use pld_build::{build, pairs_are_few};
-use pld_draft::Draft;
+use pld_draft::{Draft, EditFault};
 use pld_driver::{Bench, Engine};
-use pld_graph::{Cut, GraphFault};
+use pld_graph::GraphFault;
 use pld_image::{Image, image_bytes};
 use pld_reply::{Refusal, put_built, put_image, put_run};
-use pld_script::{Statement, Text, WordList};
+use pld_script::{Edit, Statement};
 use std::alloc::Global;
 use std::marker::Model;
 
@@ -70,150 +69,32 @@ impl Session {
         }
     }
 
-    fn op(
-        &mut self,
-        alloc: Global,
-        number: u64,
-        name: Name,
-        kind: Kind,
-        text: Text,
-        reply: &mut Vec<u8>,
-    ) -> Result<bool, NoMemory>
-        requires { reply.old.items ≡ [] }
-        ensures { IfOk result (λ refused. Tells (edits self.old number (edit.op name kind text self.old.draft)) reply.new.items refused self.new) }
+    /// Makes an edit. Behind one of the design there is no build.
+    #[tactic(auto, using(crate::proofs::Told::build_stays))]
+    fn make(&mut self, alloc: Global, edit: Edit) -> Result<(), EditFault>
+        ensures { Makes result edit self.old self.new }
     {
-        let done = self.draft.op(alloc, name, kind, text);
-        answer_edit(number, done, &mut self.images, reply)
-    }
-
-    fn replace(
-        &mut self,
-        alloc: Global,
-        number: u64,
-        name: Name,
-        kind: Kind,
-        text: Text,
-        reply: &mut Vec<u8>,
-    ) -> Result<bool, NoMemory>
-        requires { reply.old.items ≡ [] }
-        ensures { IfOk result (λ refused. Tells (edits self.old number (edit.replace name kind text self.old.draft)) reply.new.items refused self.new) }
-    {
-        let done = self.draft.replace(alloc, name, kind, text);
-        answer_edit(number, done, &mut self.images, reply)
-    }
-
-    fn remove(&mut self, number: u64, name: Name, reply: &mut Vec<u8>) -> Result<bool, NoMemory>
-        requires { reply.old.items ≡ [] }
-        ensures { IfOk result (λ refused. Tells (edits self.old number (edit.remove_operator name self.old.draft)) reply.new.items refused self.new) }
-    {
-        let done = tried(self.draft.remove(name));
-        answer_edit(number, done, &mut self.images, reply)
-    }
-
-    fn connect(
-        &mut self,
-        number: u64,
-        from: End,
-        to: End,
-        reply: &mut Vec<u8>,
-    ) -> Result<bool, NoMemory>
-        requires { reply.old.items ≡ [] }
-        ensures { IfOk result (λ refused. Tells (edits self.old number (edit.connect from to self.old.draft)) reply.new.items refused self.new) }
-    {
-        let done = self.draft.connect(from, to);
-        answer_edit(number, done, &mut self.images, reply)
-    }
-
-    fn disconnect(&mut self, number: u64, what: Cut, reply: &mut Vec<u8>) -> Result<bool, NoMemory>
-        requires { reply.old.items ≡ [] }
-        ensures { IfOk result (λ refused. Tells (edits self.old number (edit.disconnect what self.old.draft)) reply.new.items refused self.new) }
-    {
-        let done = tried(self.draft.disconnect(what));
-        answer_edit(number, done, &mut self.images, reply)
-    }
-
-    fn input(
-        &mut self,
-        alloc: Global,
-        number: u64,
-        name: Name,
-        to: End,
-        reply: &mut Vec<u8>,
-    ) -> Result<bool, NoMemory>
-        requires { reply.old.items ≡ [] }
-        ensures { IfOk result (λ refused. Tells (edits self.old number (edit.input name to self.old.draft)) reply.new.items refused self.new) }
-    {
-        let done = self.draft.input(alloc, name, to);
-        answer_edit(number, done, &mut self.images, reply)
-    }
-
-    fn output(
-        &mut self,
-        number: u64,
-        from: End,
-        name: Name,
-        reply: &mut Vec<u8>,
-    ) -> Result<bool, NoMemory>
-        requires { reply.old.items ≡ [] }
-        ensures { IfOk result (λ refused. Tells (edits self.old number (edit.output from name self.old.draft)) reply.new.items refused self.new) }
-    {
-        let done = self.draft.output(from, name);
-        answer_edit(number, done, &mut self.images, reply)
-    }
-
-    fn pin(
-        &mut self,
-        number: u64,
-        name: Name,
-        leaf: u16,
-        reply: &mut Vec<u8>,
-    ) -> Result<bool, NoMemory>
-        requires { reply.old.items ≡ [] }
-        ensures { IfOk result (λ refused. Tells (edits self.old number (edit.pin name leaf self.old.draft)) reply.new.items refused self.new) }
-    {
-        let done = tried(self.draft.pin(name, leaf));
-        answer_edit(number, done, &mut self.images, reply)
-    }
-
-    fn unpin(&mut self, number: u64, name: Name, reply: &mut Vec<u8>) -> Result<bool, NoMemory>
-        requires { reply.old.items ≡ [] }
-        ensures { IfOk result (λ refused. Tells (edits self.old number (edit.unpin name self.old.draft)) reply.new.items refused self.new) }
-    {
-        let done = tried(self.draft.unpin(name));
-        answer_edit(number, done, &mut self.images, reply)
-    }
-
-    fn pages(&mut self, number: u64, depth: u8, reply: &mut Vec<u8>) -> Result<bool, NoMemory>
-        requires { reply.old.items ≡ [] }
-        ensures { IfOk result (λ refused. Tells (repages self.old number depth) reply.new.items refused self.new) }
-    {
-        if depth < 1 || depth > 6 {
-            return refuse(number, Refusal::BadLine, reply);
+        let of_words = edit.is_of_words();
+        self.draft.edit(alloc, edit)?;
+        if of_words {
+            return Ok(());
         }
-        let done = tried(self.draft.pages(depth));
-        answer_edit(number, done, &mut self.images, reply)
+        self.images = None;
+        Ok(())
     }
 
-    fn feed(
+    fn edit(
         &mut self,
+        alloc: Global,
         number: u64,
-        name: Name,
-        words: &WordList,
+        edit: Edit,
         reply: &mut Vec<u8>,
     ) -> Result<bool, NoMemory>
         requires { reply.old.items ≡ [] }
-        ensures { IfOk result (λ refused. Tells (feeds self.old number (edit.feed name words.now self.old.draft)) reply.new.items refused self.new) }
+        ensures { IfOk result (λ refused. Tells (edits self.old number edit) reply.new.items refused self.new) }
     {
-        let done = self.draft.feed(name, words);
-        answer_feed(number, done, reply)
-    }
-
-    fn clear(&mut self, number: u64, name: Name, reply: &mut Vec<u8>) -> Result<bool, NoMemory>
-        requires { reply.old.items ≡ [] }
-        ensures { IfOk result (λ refused. Tells (feeds self.old number (edit.clear name self.old.draft)) reply.new.items refused self.new) }
-    {
-        let done = tried(self.draft.clear(name));
-        answer_feed(number, done, reply)
+        let done = self.make(alloc, edit);
+        answer_edit(number, done, reply)
     }
 
     /// Builds the design: compiles each distinct pair of kind and text once.
@@ -323,20 +204,7 @@ impl Session {
         ensures few { bench.new.permits ≤ bench.old.permits + 64 }
     {
         match statement {
-            Statement::Op(name, kind, text) => self.op(alloc, number, name, kind, text, reply),
-            Statement::Replace(name, kind, text) => {
-                self.replace(alloc, number, name, kind, text, reply)
-            }
-            Statement::Remove(name) => self.remove(number, name, reply),
-            Statement::Connect(from, to) => self.connect(number, from, to, reply),
-            Statement::Disconnect(what) => self.disconnect(number, what, reply),
-            Statement::Input(name, to) => self.input(alloc, number, name, to, reply),
-            Statement::Output(from, name) => self.output(number, from, name, reply),
-            Statement::Pin(name, leaf) => self.pin(number, name, leaf, reply),
-            Statement::Unpin(name) => self.unpin(number, name, reply),
-            Statement::Pages(depth) => self.pages(number, depth, reply),
-            Statement::Feed(name, words) => self.feed(number, name, &words, reply),
-            Statement::Clear(name) => self.clear(number, name, reply),
+            Statement::Edit(edit) => self.edit(alloc, number, edit, reply),
             Statement::Build => self.build(alloc, number, bench, reply),
             Statement::Run => self.run(alloc, number, bench, reply),
             Statement::DumpImage(name) => self.dump_image(alloc, number, name, reply),

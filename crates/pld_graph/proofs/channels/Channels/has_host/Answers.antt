@@ -17,5 +17,5 @@ returns-else-has_input c =
     let name = c.args.name.now in
     let es = c.self.inside.to_of.entries in
     let out = list_any (λ e. passes (λ n. bytes_eq n name) (to_output e.1)) es in
-    c.has_output.ensures ∙ ap (list_any (λ e. passes (λ n. bytes_eq n name) (to_output e.0))) c.self.invariant.mirror ∙ any_turned (λ t. passes (λ n. bytes_eq n name) (to_output t)) es
+    c.has_output.ensures ∙ ap (list_any (λ e. passes (λ n. bytes_eq n name) (to_output e.0))) c.self.invariant.0.mirror ∙ any_turned (λ t. passes (λ n. bytes_eq n name) (to_output t)) es
     ∙ ap (λ b. b || out) (sym c.if-has_input.false ∙ c.has_input.ensures) ∙ hosts name es ∙ ap (list_any (is_host name)) c.self.view_is

@@ -1,8 +1,0 @@
-use Rattle.std.proofs.Common.{sym}
-use Rattle.pld_draft.specs.Edits as edit
-use Rattle.pld_session.proofs.Told.{if_ok, told_edit}
-use Rattle.pld_session.proofs.session.Session.input.Goals as goal
-
-pub returns : goal.returns
-returns c = if_ok c.answer_edit.result (λ refused told. told_edit (edit.input c.args.name c.args.to) c.args.self.now c.self.inside.rounds c.self.inside.runs c.args.number c.self.inside.draft c.input-done.new.self c.self.inside.images c.answer_edit.new.images
-    c.input-done.result c.answer_edit.new.reply.items refused (sym c.self.view_is) c.input-done.ensures told c.answer_edit.ensures.images) c.answer_edit.ensures.told
