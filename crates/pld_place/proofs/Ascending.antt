@@ -1,10 +1,9 @@
 -- The leaves without a pin stand in order.
-use Rattle.std.proofs.Common.{◌≡◌, ℕ, zero, suc, ◌+◌, ◌<◌, ◌≤◌, Bool, true, false, cond, not, List, [], ◌∷◌, length, filter, drop, refl, sym, ap, subst, ◌∙◌, arith}
+use Rattle.std.proofs.Common.{◌≡◌, ℕ, zero, suc, ◌+◌, ◌<◌, ◌≤◌, Bool, true, false, cond, not, List, ◌∷◌, length, filter, sym, subst, arith}
 use Rattle.std.specs.Prelude.{slice_index_or}
 use Rattle.std.specs.List.{range_with_len}
-use Rattle.std.proofs.lemmas.List.{length-drop}
 use Rattle.pld_place.specs.Placing.{is_among, movable_among}
-use Rattle.pld_place.specs.Touching.{AreAscending, AreAbove}
+use Rattle.pld_place.specs.Touching.{AreAscending}
 
 abbrev at : List ℕ → ℕ → ℕ
 at leaves k = slice_index_or leaves k 0

@@ -1,12 +1,12 @@
 -- What exchanges keep, and what none of them is left for.
-use Rattle.std.proofs.Common.{◌≡◌, ℕ, zero, suc, ◌+◌, ◌<◌, ◌≤◌, Bool, true, false, true≢false, cond, not, if◌then◌else◌, ◌⊎◌, inl, inr, List, [], ◌∷◌, length, filter, map, refl, sym, ap, subst, ◌∙◌, arith, Option, Some, None}
-use Rattle.std.specs.Prelude.{◌==◌, nat_lt, option_map, slice_index, slice_index_or}
-use Rattle.std.specs.List.{All, range_with_len}
+use Rattle.std.proofs.Common.{◌≡◌, ℕ, zero, suc, ◌+◌, ◌<◌, ◌≤◌, Bool, true, false, true≢false, cond, not, if◌then◌else◌, List, [], ◌∷◌, filter, refl, sym, ap, subst, ◌∙◌, arith, Option, Some, None}
+use Rattle.std.specs.Prelude.{◌==◌, nat_lt, option_map}
+use Rattle.std.specs.List.{range_with_len}
 use Rattle.std.proofs.lemmas.Bool.Decides.{nat_tests}
 use Rattle.std.proofs.lemmas.Option.{none-some, same_Some}
 use Rattle.pld_graph.specs.Design.{or_else}
 use Rattle.pld_place.specs.declared.ends.Ends.{Ends}
-use Rattle.pld_place.specs.Exchanges.{total, lowers, partner, first_pair, exchanged, traded, follow, improved, one_more, made}
+use Rattle.pld_place.specs.Exchanges.{total, lowers, partner, first_pair, exchanged, follow, improved, one_more, made}
 use Rattle.pld_place.specs.Placing.{is_among, movable_among}
 use Rattle.pld_place.proofs.Free.{is_same}
 use Rattle.pld_place.proofs.Settling.{Each}

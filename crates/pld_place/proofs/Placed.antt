@@ -1,5 +1,5 @@
 -- What holds of the placement of every sound design that has enough pages.
-use Rattle.std.proofs.Common.{◌≡◌, ℕ, zero, suc, ◌+◌, ◌-◌, ◌^◌, ◌<◌, ◌≤◌, Bool, true, false, true≢false, ◌&&◌, cond, ◌⊎◌, inl, inr, List, [], ◌∷◌, length, map, refl, sym, ap, subst, ◌∙◌, arith, Option, Some, None}
+use Rattle.std.proofs.Common.{◌≡◌, ℕ, zero, suc, ◌+◌, ◌-◌, ◌^◌, ◌<◌, ◌≤◌, Bool, true, false, true≢false, ◌&&◌, cond, List, [], ◌∷◌, length, map, refl, sym, ap, subst, ◌∙◌, arith, Option, Some, None}
 use Rattle.std.specs.Prelude.{◌==◌, nat_lt, slice_index, slice_index_or, if◌then◌else◌}
 use Rattle.std.specs.List.{All, count_by}
 use Rattle.std.proofs.lemmas.List.{length-map}
@@ -7,20 +7,17 @@ use Rattle.std.proofs.lemmas.List.Elements.{All-tail, All-head}
 use Rattle.std.proofs.lemmas.List.Sums.{sum_by-cons}
 use Rattle.std.proofs.lemmas.Bool.Decides.{nat_tests}
 use Rattle.std.proofs.Math.Pow.{pow_mono}
-use Rattle.std.proofs.lemmas.Option.{none-some, same_Some}
 use Rattle.pld_place.proofs.Trading.{twice}
 use Rattle.pld_graph.specs.declared.parts.OperatorEntry.{OperatorEntry}
-use Rattle.pld_graph.specs.Parts.{passes}
 use Rattle.pld_graph.specs.Design.{Design, operator_at}
 use Rattle.pld_graph.specs.Edits.{is_leaf}
 use Rattle.pld_graph.specs.Sound.{IsSound, is_within, is_pinned, every}
 use Rattle.pld_place.specs.declared.ends.Ends.{Ends}
-use Rattle.pld_place.specs.Exchanges.{first_pair, exchanged, traded, improved, made, total}
-use Rattle.pld_place.specs.Placing.{pages, pins, pinned_leaves, is_among, settled, first_leaves, movable, ends_of, channel_ends, placed, exchanges, distances, IsPlaced, MayExchange}
-use Rattle.pld_place.proofs.Gains.{moved}
+use Rattle.pld_place.specs.Exchanges.{first_pair, exchanged, traded, improved}
+use Rattle.pld_place.specs.Placing.{pages, pins, pinned_leaves, is_among, first_leaves, movable, ends_of, channel_ends, placed, exchanges, distances, IsPlaced, MayExchange}
 use Rattle.pld_place.proofs.Free.{is_same}
-use Rattle.pld_place.proofs.Settling.{holds, Each, Apart, Room, Spread, spread, count_cons, length-settled, at_pins, pins_taken, pins_and_others, unpinned}
-use Rattle.pld_place.proofs.Keeping.{Found, found_pair, is_less, Movable, all_movable, none_lowers, keeps, settled_at}
+use Rattle.pld_place.proofs.Settling.{holds, Each, Apart, Room, spread, count_cons, length-settled, at_pins, pins_taken, pins_and_others}
+use Rattle.pld_place.proofs.Keeping.{found_pair, is_less, Movable, all_movable, none_lowers, keeps, settled_at}
 
 -- ---- pins of a sound design
 

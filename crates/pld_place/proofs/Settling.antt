@@ -1,13 +1,13 @@
 -- Each operator stands on a leaf of its own before any exchange.
-use Rattle.std.proofs.Common.{◌≡◌, ℕ, zero, suc, ◌+◌, ◌<◌, ◌≤◌, Bool, true, false, true≢false, ◌||◌, cond, ◌⊎◌, inl, inr, List, [], ◌∷◌, ◌++◌, length, refl, sym, ap, subst, ◌∙◌, arith, Option, Some, None}
+use Rattle.std.proofs.Common.{◌≡◌, ℕ, zero, suc, ◌+◌, ◌≤◌, Bool, true, false, true≢false, ◌||◌, cond, ◌⊎◌, inl, inr, List, [], ◌∷◌, ◌++◌, length, refl, sym, ap, subst, ◌∙◌, arith, Option, Some, None}
 use Rattle.std.specs.Prelude.{◌==◌, slice_index_or}
-use Rattle.std.specs.List.{count_by, list_any, filter_map, cons_option}
+use Rattle.std.specs.List.{count_by}
 use Rattle.std.proofs.lemmas.List.Sums.{sum_by-cons}
 use Rattle.std.proofs.lemmas.List.{length-append}
 use Rattle.std.proofs.lemmas.Option.{none-some, same_Some}
 use Rattle.pld_graph.specs.Parts.{passes}
 use Rattle.pld_place.specs.Placing.{is_among, next_leaf, settled, pinned_leaves}
-use Rattle.pld_place.proofs.Free.{IsFree, next_is_free, among_more, is_same, own_test}
+use Rattle.pld_place.proofs.Free.{IsFree, next_is_free, among_more, own_test}
 
 -- the pin is this leaf
 abbrev pub holds : ℕ → Option ℕ → Bool

@@ -1,15 +1,13 @@
 -- One step of each loop over leaves.
-use Rattle.std.proofs.Common.{◌≡◌, ℕ, zero, suc, ◌+◌, ◌-◌, ◌*◌, ◌/◌, ◌<◌, ◌≤◌, Bool, true, false, cond, not, if◌then◌else◌, List, [], ◌∷◌, ◌++◌, length, map, filter, take, drop, get_or, set, refl, sym, ap, ◌∙◌, arith, Option, Some, None}
+use Rattle.std.proofs.Common.{◌≡◌, ℕ, zero, suc, ◌+◌, ◌/◌, ◌<◌, Bool, true, false, cond, not, if◌then◌else◌, List, [], ◌∷◌, ◌++◌, length, map, filter, take, drop, get_or, set, refl, sym, ap, ◌∙◌, arith, Option, Some, None}
 use Rattle.std.specs.Prelude.{◌==◌, slice_index_or}
-use Rattle.std.specs.List.{range_with_len, filter_map, cons_option}
-use Rattle.std.proofs.Math.Seq.{drop-cons}
-use Rattle.std.proofs.lemmas.List.{map-append, append-nil, append_assoc, map-set, map_more, length-map}
-use Rattle.std.proofs.lemmas.Bool.Decides.{nat_tests}
+use Rattle.std.specs.List.{range_with_len}
+use Rattle.std.proofs.lemmas.List.{append-nil, map-set, map_more, length-map}
 use Rattle.std.proofs.lemmas.Option.{none-some, same_Some}
 use Rattle.pld_base.specs.declared.event.PageId.{PageId}
 use Rattle.pld_place.specs.Distance.{level_over}
 use Rattle.pld_place.specs.Exchanges.{traded, exchanged}
-use Rattle.pld_place.specs.Placing.{numbers, is_among, least_free, next_leaf, settled, movable_among, pinned_leaves}
+use Rattle.pld_place.specs.Placing.{numbers, is_among, least_free, movable_among, pinned_leaves}
 
 -- ---- levels
 

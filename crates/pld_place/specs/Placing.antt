@@ -1,5 +1,5 @@
 -- The leaves on which the operators of a design are placed.
-use Rattle.std.specs.Prelude.{◌≡◌, ℕ, zero, suc, ◌+◌, ◌-◌, ◌^◌, ◌==◌, ◌≤◌, ◌<◌, Bool, true, false, not, List, [], ◌∷◌, ◌++◌, length, map, filter, Option, Some, None, Result, Ok, Err, slice_index, slice_index_or, if◌then◌else◌}
+use Rattle.std.specs.Prelude.{◌≡◌, ℕ, zero, suc, ◌+◌, ◌-◌, ◌^◌, ◌==◌, ◌≤◌, ◌<◌, Bool, false, not, List, [], ◌∷◌, ◌++◌, length, map, filter, Option, Some, None, Result, Ok, Err, slice_index, if◌then◌else◌}
 use Rattle.std.specs.List.{All, list_any, filter_map, range_with_len}
 use Rattle.pld_base.specs.declared.event.PageId.{PageId}
 use Rattle.pld_base.specs.declared.memory.Refused.{Refused}
@@ -9,11 +9,10 @@ use Rattle.pld_graph.specs.declared.parts.FromEnd.{FromEnd}
 use Rattle.pld_graph.specs.declared.parts.FromEnd.TheVariants as from_end
 use Rattle.pld_graph.specs.declared.parts.ToEnd.{ToEnd}
 use Rattle.pld_graph.specs.declared.parts.ToEnd.TheVariants as to_end
-use Rattle.pld_graph.specs.Parts.{passes}
 use Rattle.pld_graph.specs.Design.{Design, place_of, operator_at}
 use Rattle.pld_place.specs.declared.ends.Ends.{Ends}
 use Rattle.pld_place.specs.declared.placement.TooFewPages.{TooFewPages}
-use Rattle.pld_place.specs.Exchanges.{improved, made, total, exchanged}
+use Rattle.pld_place.specs.Exchanges.{improved, made, total}
 
 abbrev pub numbers : List PageId → List ℕ
 numbers pages = map (λ p. p.0) pages

@@ -1,5 +1,5 @@
 -- A board: operators on leaves and the channels between them, which are kept by the leaves at which they have an end.
-use Rattle.std.specs.Prelude.{◌≡◌, ℕ, ◌+◌, ◌==◌, ◌≤◌, ◌<◌, Bool, ◌||◌, List, [], map, filter, length, slice_index_or}
+use Rattle.std.specs.Prelude.{◌≡◌, ℕ, ◌+◌, ◌==◌, ◌≤◌, ◌<◌, Bool, ◌||◌, List, [], filter, length, slice_index_or}
 use Rattle.std.specs.List.{All}
 use Rattle.pld_place.specs.declared.ends.Ends.{Ends}
 use Rattle.pld_place.specs.Exchanges.{leaf_at}

@@ -1,4 +1,4 @@
-use Rattle.std.proofs.Common.{◌≡◌, ◌+◌, ◌*◌, ◌≤◌, take}
+use Rattle.std.proofs.Common.{◌≡◌, ◌*◌, ◌≤◌, take}
 use Rattle.pld_place.specs.Exchanges.{total, exchanged}
 use Rattle.pld_place.specs.Placing.{numbers}
 use Rattle.pld_place.proofs.ends.measure.Given as goal
