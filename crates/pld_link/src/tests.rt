@@ -2,7 +2,7 @@
 
 ghost use Rattle.std.specs.Prelude.{◌≡◌, length};
 
-use crate::{changes, has_slots, tables};
+use crate::{has_slots, tables};
 use net_switch::Row;
 use pld_base::{End, Name, PageId, PortNo, Refused, Side};
 use pld_graph::{Graph, GraphFault};
@@ -94,53 +94,6 @@ fn rows_are_those_by_hand(rt: HostRuntime) -> Result<(), Fail> {
     assert_eq!(rt; table.len(), 1024);
     for (at, row) in table.iter().enumerate() {
         assert_eq!(rt; *row, by_hand(at / 16, at % 16), "at {at}");
-    }
-    Ok(())
-}
-
-// Two operators that send words to the two in-ports of a third one, straight or crossed.
-fn joined(
-    alloc: Global,
-    first: [Name; 2],
-    last: Name,
-    inputs: [Name; 2],
-    output: Name,
-    crossed: bool,
-) -> Result<Graph, Refused<GraphFault>> {
-    let mut g = Graph::new(alloc, 2);
-    g.add(first[0], 1, 1)?;
-    g.add(first[1], 1, 1)?;
-    g.add(last, 2, 1)?;
-    g.input(inputs[0], into(first[0], 0))?;
-    g.input(inputs[1], into(first[1], 0))?;
-    g.connect(out(first[0], 0), into(last, if crossed { 1 } else { 0 }))?;
-    g.connect(out(first[1], 0), into(last, if crossed { 0 } else { 1 }))?;
-    g.output(out(last, 0), output)?;
-    Ok(g)
-}
-
-#[test]
-fn changes_are_counted(rt: HostRuntime) -> Result<(), Fail> {
-    let name = |text: &[u8]| Name::of(text).expect(&rt, "a name");
-    let first = [name(b"p"), name(b"q")];
-    let inputs = [name(b"u"), name(b"v")];
-    let leaves = [PageId(1), PageId(2), PageId(3)];
-    let straight = joined(rt.alloc(), first, name(b"c"), inputs, name(b"y"), false).expect(
-        &rt, "a design",
-    );
-    let crossed = joined(rt.alloc(), first, name(b"c"), inputs, name(b"y"), true).expect(
-        &rt, "a design",
-    );
-    let none = tables(rt.alloc(), &Graph::new(rt.alloc(), 2), &[])?;
-    let old = tables(rt.alloc(), &straight, &leaves)?;
-    let new = tables(rt.alloc(), &crossed, &leaves)?;
-    assert_eq!(rt; changes(rt.alloc(), &none, &old)?.len(), 7);
-    let sent = changes(rt.alloc(), &old, &new)?;
-    assert_eq!(rt; sent.len(), 4);
-    let by_hand = [(1, 0), (2, 0), (3, 8), (3, 9)];
-    for (entry, at) in sent.iter().zip(by_hand.iter()) {
-        assert_eq!(rt; entry.leaf.0, at.0);
-        assert_eq!(rt; entry.slot, at.1);
     }
     Ok(())
 }

@@ -1,0 +1,5 @@
+//! What a relink sends, on designs made by edits.
+#![tactic(auto)]
+
+#[cfg(test)]
+mod crossed;
