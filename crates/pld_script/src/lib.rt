@@ -9,8 +9,6 @@ mod next;
 mod number;
 mod scan;
 mod statement;
-#[cfg(test)]
-mod tests;
 mod text;
 
 pub use depth::Depth;

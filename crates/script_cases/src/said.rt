@@ -1,8 +1,8 @@
 //! Lines, and what each says, written by hand.
 
-use crate::{Edit, Next, Statement, next_statement};
 use pld_base::{End, Kind, Name, NoMemory, Side};
 use pld_graph::Cut;
+use pld_script::{Edit, Next, Statement, next_statement};
 use std::alloc::Global;
 use std::test::Fail;
 
