@@ -3,3 +3,4 @@ pub mod Filling
 pub mod Ends
 pub mod Linked
 pub mod Alike
+pub mod Changed

@@ -1,3 +1,4 @@
 pub mod Seats
 pub mod Rows
 pub mod Joining
+pub mod Changes

@@ -1,11 +1,13 @@
 //! What holds of the rows of every sound design whose operators are placed.
 
-ghost use Rattle.std.specs.Prelude.{◌≡◌, ℕ, ◌+◌, ◌*◌, ◌<◌, ◌⊎◌, List, length, Some, None, IsSome, slice_index_or};
+ghost use Rattle.std.specs.Prelude.{◌≡◌, ℕ, ◌+◌, ◌*◌, ◌<◌, ◌⊎◌, ◌≤◌, List, [], Option, length, Some, None, IsSome, slice_index_or};
 ghost use Rattle.std.specs.List.{Contains};
 ghost use Rattle.net_switch.specs.declared.packet.Row.{Row};
 ghost use Rattle.pld_graph.specs.Design.{Design, inputs, outputs};
 ghost use Rattle.pld_graph.specs.Sound.{IsSound};
 ghost use Rattle.pld_link.specs.Seats.{IsPlacement, HasSlots, operator_names, seat};
+ghost use Rattle.leaf_port.specs.declared.tables.ConfigEntry.{ConfigEntry};
+ghost use Rattle.pld_link.specs.Changes.{row_at, changes, with_entries};
 ghost use Rattle.pld_link.specs.Rows.{row, out_row, in_row, row_of, rows};
 
 /// Both ends of a channel name each other.
@@ -55,4 +57,28 @@ pub fn rows_stand_in_order()
 pub fn rows_follow_the_channels()
     ensures { (d other : Design) (leaves : List ℕ) → d.channels ≡ other.channels → operator_names d ≡ operator_names other
         → rows d leaves ≡ rows other leaves }
+{}
+
+/// Rows with the changes put into them are the new rows at all leaves from 1 up, and the old ones at leaf 0.
+pub fn changes_make_the_new_rows()
+    ensures new { (old new : List (Option Row)) (leaf slot : ℕ) → length old ≡ 1024 → 1 ≤ leaf → leaf < 64 → slot < 16
+        → row_at (with_entries old (changes old new)) (16 * leaf + slot) ≡ row_at new (16 * leaf + slot) }
+    ensures host { (old new : List (Option Row)) (slot : ℕ) → slot < 16
+        → row_at (with_entries old (changes old new)) slot ≡ row_at old slot }
+{}
+
+/// There are no changes exactly where the rows are equal at all leaves from 1 up.
+pub fn no_changes_for_equal_rows()
+    ensures equal { (old new : List (Option Row)) (leaf slot : ℕ) → changes old new ≡ [] → 1 ≤ leaf → leaf < 64 → slot < 16
+        → row_at old (16 * leaf + slot) ≡ row_at new (16 * leaf + slot) }
+    ensures none { (old new : List (Option Row))
+        → ((leaf slot : ℕ) → 1 ≤ leaf → leaf < 64 → slot < 16 → row_at old (16 * leaf + slot) ≡ row_at new (16 * leaf + slot))
+        → changes old new ≡ [] }
+{}
+
+/// The row of a link that was removed is among the changes, with no new row.
+pub fn removed_rows_are_sent()
+    ensures { (old new : List (Option Row)) (leaf slot : ℕ) (r : Row) → 1 ≤ leaf → leaf < 64 → slot < 16
+        → row_at old (16 * leaf + slot) ≡ Some r → row_at new (16 * leaf + slot) ≡ None
+        → Contains (changes old new) (record { leaf = record { 0 = leaf }; slot = slot; row = None }) }
 {}

@@ -1,0 +1,11 @@
+pub mod Trading
+pub mod Gains
+pub mod Firsts
+pub mod Steps
+pub mod Boards
+pub mod Ascending
+pub mod Pins
+pub mod Free
+pub mod Settling
+pub mod Keeping
+pub mod Placed

@@ -1,0 +1,4 @@
+pub mod Distance
+pub mod Exchanges
+pub mod Placing
+pub mod Touching
