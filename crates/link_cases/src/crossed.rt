@@ -1,7 +1,8 @@
 //! The changes between the rows of two designs, with their counts and places by hand.
 
-ghost use Rattle.std.specs.Prelude.{◌≡◌, length};
+ghost use Rattle.std.specs.Prelude.{◌≡◌, length, IfOk};
 
+use net_switch::Row;
 use pld_base::{End, Name, PageId, PortNo, Refused, Side};
 use pld_graph::{Graph, GraphFault};
 use pld_link::{changes, tables};
@@ -45,6 +46,26 @@ fn joined(
     Ok(g)
 }
 
+// That design, with names.
+fn design(rt: &HostRuntime, ports: [u8; 2]) -> Result<Graph, Fail> {
+    let name = |text: &[u8]| Name::of(text).expect(rt, "a name");
+    let first = [name(b"p"), name(b"q")];
+    let inputs = [name(b"u"), name(b"v")];
+    Ok(joined(rt.alloc(), first, name(b"c"), inputs, name(b"y"), ports).expect(rt, "a design"))
+}
+
+// Its rows, on the leaves 1, 2 and 3.
+fn rows(rt: &HostRuntime, ports: [u8; 2]) -> Result<Vec<Option<Row>>, Fail>
+    ensures { IfOk result (λ rows. length rows.items ≡ 1024) }
+{
+    let g = design(rt, ports)?;
+    let count = g.operators();
+    assert_eq!(rt; count, 3);
+    let rows = tables(rt.alloc(), &g, &[PageId(1), PageId(2), PageId(3)])?;
+    assert_eq!(rt; rows.len(), 1024);
+    Ok(rows)
+}
+
 // The leaf and the slot of each change where the two operators are crossed.
 fn crossed(at: usize) -> (u8, u8) {
     match at {
@@ -56,26 +77,19 @@ fn crossed(at: usize) -> (u8, u8) {
 }
 
 #[test]
-fn crossed_links_change_four_rows(rt: HostRuntime) -> Result<(), Fail> {
-    let name = |text: &[u8]| Name::of(text).expect(&rt, "a name");
-    let first = [name(b"p"), name(b"q")];
-    let inputs = [name(b"u"), name(b"v")];
-    let last = name(b"c");
-    let output = name(b"y");
-    let g = joined(rt.alloc(), first, last, inputs, output, [0, 1]).expect(&rt, "a design");
-    let h = joined(rt.alloc(), first, last, inputs, output, [1, 0]).expect(&rt, "a design");
-    let count = g.operators();
-    assert_eq!(rt; count, 3);
-    let other = h.operators();
-    assert_eq!(rt; other, 3);
+fn all_rows_are_sent_at_first(rt: HostRuntime) -> Result<(), Fail> {
     let none = tables(rt.alloc(), &Graph::new(rt.alloc(), 2), &[])?;
-    let old = tables(rt.alloc(), &g, &[PageId(1), PageId(2), PageId(3)])?;
-    let new = tables(rt.alloc(), &h, &[PageId(1), PageId(2), PageId(3)])?;
     assert_eq!(rt; none.len(), 1024);
-    assert_eq!(rt; old.len(), 1024);
-    assert_eq!(rt; new.len(), 1024);
-    let all = changes(rt.alloc(), &none, &old)?;
-    assert_eq!(rt; all.len(), 7);
+    let new = rows(&rt, [0, 1])?;
+    let sent = changes(rt.alloc(), &none, &new)?;
+    assert_eq!(rt; sent.len(), 7);
+    Ok(())
+}
+
+#[test]
+fn crossed_links_change_four_rows(rt: HostRuntime) -> Result<(), Fail> {
+    let old = rows(&rt, [0, 1])?;
+    let new = rows(&rt, [1, 0])?;
     let sent = changes(rt.alloc(), &old, &new)?;
     assert_eq!(rt; sent.len(), 4);
     for (at, entry) in sent.iter().enumerate() {
