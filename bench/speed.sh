@@ -6,6 +6,7 @@
 #          writes a line `ok` for each
 #
 # Usage: bench/speed.sh [RUNS]    (5 runs of each by default; wants rt and rustc on the path)
+# Behind these come the turns of a page beside those of a plain interpreter (turns.sh).
 # A line is what ran, the least processor time (user and system, in seconds) of pld and of the plain program among these
 # runs, which take turns, and how many times as long pld took.
 set -eu
@@ -48,3 +49,6 @@ for row in 'loops loops images run' 'feeds feeds feeds feed'; do
   done
   awk -v n="$1" -v p="$pld_least" -v q="$plain_least" 'BEGIN { printf "%-8s %8.3f %8.3f %6.2f\n", n, p / 1000, q / 1000, p / q }'
 done
+
+echo
+"$here/turns.sh" "$runs"
