@@ -141,11 +141,11 @@ fn wide() -> Vec<Statement> {
     (0..166).map(|_| Statement::Assign("x".to_string(), term())).collect()
 }
 
-// 31 times if (x) { in one another, round write(b, x + x * 8 + x * 8 ..) with 234 products
+// 30 times if (x) { in one another, round write(b, x + x * 8 + x * 8 ..) with 234 products
 fn deep() -> Vec<Statement> {
     let product = || binary(Op::Mul, scalar(), Expr::Literal(8));
     let sum = (0..234).fold(scalar(), |sum, _| binary(Op::Add, sum, product()));
-    (0..31).fold(vec![Statement::Write("b".to_string(), sum)], |body, _| vec![Statement::If(scalar(), body, Vec::new())])
+    (0..30).fold(vec![Statement::Write("b".to_string(), sum)], |body, _| vec![Statement::If(scalar(), body, Vec::new())])
 }
 
 fn main() {

@@ -1,7 +1,7 @@
 #!/bin/bash
 # How fast the passes over an operator are beside the same in plain Rust (passes.rs): 20,000 times over one of about 1,000 nodes,
 #   wide  166 assignments x = x * 8 + 0
-#   deep  31 choices in one another, round a sum of 235 parts that leans to the left
+#   deep  30 choices in one another, round a sum of 235 parts that leans to the left
 # and, for the cost of a node, over the first half of either, which takes half the time where the passes are linear.
 #
 # Usage: bench/passes.sh [RUNS]    (5 runs of each by default; wants rt and rustc on the path)
@@ -29,7 +29,7 @@ deep() {
 }
 wide 166 >"$dir/wide"
 wide 83 >"$dir/wide_half"
-deep 31 234 >"$dir/deep"
+deep 30 234 >"$dir/deep"
 deep 15 117 >"$dir/deep_half"
 
 # processor time of a command with this input, in milliseconds
