@@ -9,9 +9,9 @@ use crate::block::{Block, Lowered};
 use crate::builder::Builder;
 use fsm_core::Next;
 use pld_ast::{
-    Expr, Operator, Stmt, Target, Used, array_place, in_place, out_place, scalar_place, type_in,
+    Expr, Operator, Stmt, Target, Used, place_of, port_place, type_in,
 };
-use pld_base::NoMemory;
+use pld_base::{NoMemory, Side};
 use pld_check::Checked;
 use std::alloc::Global;
 
@@ -20,7 +20,7 @@ fn register_of(op: &Operator, used: &Used) -> u16
     requires { HasRoom op.now }
     ensures { result ≡ scalar_no (declared_in op.now) used.now.name }
 {
-    scalar_place(op.scalars.as_slice(), &used.name) as u16
+    place_of(op.scalars.as_slice(), &used.name) as u16
 }
 
 // An array's number.
@@ -28,7 +28,7 @@ fn array_of(op: &Operator, used: &Used) -> u8
     requires { HasRoom op.now }
     ensures { result ≡ array_no (declared_in op.now) used.now.name }
 {
-    array_place(op.arrays.as_slice(), &used.name) as u8
+    place_of(op.arrays.as_slice(), &used.name) as u8
 }
 
 // The micros of an expression, and the register that it is left in.
@@ -100,12 +100,12 @@ fn put_statement(alloc: Global, b: &mut Builder, op: &Operator, s: &Stmt) -> Res
     match s {
         Stmt::Assign(to, e) => put_assign(b, op, to, e),
         Stmt::Read(to, port) => {
-            let place = in_place(op.ports.as_slice(), &port.name) as u8;
+            let place = port_place(op.ports.as_slice(), Side::In, &port.name) as u8;
             put_input(b, op, to, place)
         }
         Stmt::Write(port, e) => {
             let value = put_value(b, op, e)?;
-            let place = out_place(op.ports.as_slice(), &port.name) as u8;
+            let place = port_place(op.ports.as_slice(), Side::Out, &port.name) as u8;
             b.put_write(place, value)
         }
         Stmt::If(test, yes, no) => {

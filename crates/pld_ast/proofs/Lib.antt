@@ -4,3 +4,4 @@ pub mod Grows
 pub mod ReadLaws
 pub mod TraceLaws
 pub mod WordLaws
+pub mod Naming

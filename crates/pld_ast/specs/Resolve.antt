@@ -1,5 +1,7 @@
 -- An operator's names, looked up.
-use Rattle.std.specs.Prelude.{ℕ, suc, List, [], ◌∷◌, length, map, filter, Bool, true, false, if◌then◌else◌}
+use Rattle.std.specs.Prelude.{ℕ, List, [], ◌∷◌, length, map, filter, Bool, true, false}
+use Rattle.std.specs.List.{find, position_or_len}
+use Rattle.std.specs.Option.{unwrap_or, option_map}
 use Rattle.std.specs.Str.{bytes_eq}
 use Rattle.pld_base.specs.declared.event.Side.{Side}
 use Rattle.pld_base.specs.declared.event.Side.TheVariants.{In, Out}
@@ -24,8 +26,11 @@ use Rattle.pld_ast.specs.Program.{Sign, Signed, Unsigned, Value, Action, Program
 
 -- the place of a name in a list, and the length where it isn't there
 abbrev pub place_in : List (List ℕ) → List ℕ → ℕ
-place_in [] n = 0
-place_in (m ∷ ms) n = if bytes_eq m n then 0 else suc (place_in ms n)
+place_in names n = position_or_len (λ m. bytes_eq m n) names
+
+-- the type under a name in a list of variables, and signed where it isn't there
+abbrev pub type_under : {A : Type 0} → (A → List ℕ) → (A → Ty) → List A → List ℕ → Ty
+type_under name ty variables n = unwrap_or (option_map ty (find (λ v. bytes_eq (name v) n) variables)) Int
 
 abbrev pub is_in : Side → Bool
 is_in In = true
@@ -35,10 +40,14 @@ abbrev pub is_out : Side → Bool
 is_out In = false
 is_out Out = true
 
+-- a port is of this side
+abbrev pub is_at : Side → Port → Bool
+is_at In q = is_in q.side
+is_at Out q = is_out q.side
+
 -- the names of the ports of one side, in their order
 abbrev pub ports_at : Side → List Port → List (List ℕ)
-ports_at In ports = map (λ q. q.name) (filter (λ q. is_in q.side) ports)
-ports_at Out ports = map (λ q. q.name) (filter (λ q. is_out q.side) ports)
+ports_at side ports = map (λ q. q.name) (filter (is_at side) ports)
 
 -- the declarations of an operator
 pub record Names : Type 0 where
@@ -62,12 +71,10 @@ abbrev pub array_no : Names → List ℕ → ℕ
 array_no d n = place_in (map (λ a. a.name) d.arrays) n
 
 abbrev pub scalar_type : List Scalar → List ℕ → Ty
-scalar_type [] n = Int
-scalar_type (s ∷ ss) n = if bytes_eq s.name n then s.ty else scalar_type ss n
+scalar_type scalars n = type_under (λ s. s.name) (λ s. s.ty) scalars n
 
 abbrev pub array_type : List Array → List ℕ → Ty
-array_type [] n = Int
-array_type (a ∷ rest) n = if bytes_eq a.name n then a.ty else array_type rest n
+array_type arrays n = type_under (λ a. a.name) (λ a. a.ty) arrays n
 
 -- unsigned where one of the two is
 abbrev pub joined : Ty → Ty → Ty

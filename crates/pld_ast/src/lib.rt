@@ -10,9 +10,7 @@ mod places;
 mod tree;
 
 pub use laws::{operators_are_processes, words_stay_words};
-pub use lookup::{
-    join, scalar_place, type_after, type_between, type_in, type_of_array, type_of_scalar,
-};
+pub use lookup::{join, type_after, type_between, type_in};
 pub use operations::{apply, apply_one};
-pub use places::{array_place, count_ins, count_outs, in_place, out_place};
+pub use places::{Variable, count_ports, place_of, port_place, type_of_variable};
 pub use tree::{Array, BinOp, Expr, Operator, Port, Scalar, Stmt, Target, Ty, UnOp, Used};

@@ -1,59 +1,10 @@
-//! Names, looked up among the declarations.
+//! The types of values.
 
-ghost use Rattle.std.specs.Prelude.{◌≡◌, ◌≤◌, map, length};
-ghost use Rattle.pld_ast.specs.Resolve.{place_in, scalar_type, array_type, joined, unary_type, binary_type, type_of, declared_in};
+ghost use Rattle.std.specs.Prelude.{◌≡◌};
+ghost use Rattle.pld_ast.specs.Resolve.{joined, unary_type, binary_type, type_of, declared_in};
 
-use crate::tree::{Array, BinOp, Expr, Operator, Scalar, Ty, UnOp};
-use pld_base::Name;
-
-/// The place of a scalar's name, and the count of scalars where it isn't there.
-pub fn scalar_place(scalars: &[Scalar], name: &Name) -> usize
-    ensures value { result ≡ place_in (map (λ s. s.name) scalars.now) name.now }
-    ensures bound { result ≤ length scalars.now }
-{
-    match scalars {
-        [] => 0,
-        [first, rest @ ..] => {
-            if first.name.is_same(name) {
-                0
-            } else {
-                scalar_place(rest, name) + 1
-            }
-        }
-    }
-}
-
-/// The type of a scalar.
-pub fn type_of_scalar(scalars: &[Scalar], name: &Name) -> Ty
-    ensures { result ≡ scalar_type scalars.now name.now }
-{
-    match scalars {
-        [] => Ty::Int,
-        [first, rest @ ..] => {
-            if first.name.is_same(name) {
-                first.ty
-            } else {
-                type_of_scalar(rest, name)
-            }
-        }
-    }
-}
-
-/// The type of an array's elements.
-pub fn type_of_array(arrays: &[Array], name: &Name) -> Ty
-    ensures { result ≡ array_type arrays.now name.now }
-{
-    match arrays {
-        [] => Ty::Int,
-        [first, rest @ ..] => {
-            if first.name.is_same(name) {
-                first.ty
-            } else {
-                type_of_array(rest, name)
-            }
-        }
-    }
-}
+use crate::places::type_of_variable;
+use crate::tree::{BinOp, Expr, Operator, Ty, UnOp};
 
 /// The type of two operands together: unsigned where one of them is.
 pub fn join(s: Ty, t: Ty) -> Ty
@@ -107,8 +58,8 @@ pub fn type_in(op: &Operator, e: &Expr) -> Ty
 {
     match e {
         Expr::Lit(_, t) => *t,
-        Expr::Var(u) => type_of_scalar(op.scalars.as_slice(), &u.name),
-        Expr::Element(u, _) => type_of_array(op.arrays.as_slice(), &u.name),
+        Expr::Var(u) => type_of_variable(op.scalars.as_slice(), &u.name),
+        Expr::Element(u, _) => type_of_variable(op.arrays.as_slice(), &u.name),
         Expr::Unary(o, a) => type_after(*o, type_in(op, a.get())),
         Expr::Binary(o, a, b) => type_between(*o, type_in(op, a.get()), type_in(op, b.get())),
         Expr::Cast(t, _) => *t,

@@ -1,98 +1,104 @@
-//! The places of names among arrays and ports.
+//! The places of names among variables and ports.
 
-ghost use Rattle.std.specs.Prelude.{◌≡◌, ◌≤◌, map, length};
-ghost use Rattle.pld_ast.specs.Resolve.{place_in, ports_at, is_in as is_in_of, is_out as is_out_of};
+ghost use Rattle.std.specs.Prelude.{◌≡◌, ◌≤◌, ℕ, List, map, length};
+ghost use Rattle.pld_ast.specs.declared.tree.Ty.{Ty};
+ghost use Rattle.pld_ast.specs.Resolve.{place_in, ports_at, is_at as is_at_of, type_under};
 
-use crate::tree::{Array, Port};
+use crate::tree::{Array, Port, Scalar, Ty};
 use pld_base::{Name, Side};
 
-/// The place of an array's name, and the count of arrays where it isn't there.
-pub fn array_place(arrays: &[Array], name: &Name) -> usize
-    ensures value { result ≡ place_in (map (λ a. a.name) arrays.now) name.now }
-    ensures bound { result ≤ length arrays.now }
+/// A declared variable: a scalar or an array.
+pub trait Variable {
+    ghost named: { Self → List ℕ };
+
+    ghost typed: { Self → Ty };
+
+    /// Its name.
+    fn name(&self) -> &Name
+        ensures { result.now ≡ named self.now };
+
+    /// The type of its words.
+    fn ty(&self) -> Ty
+        ensures { result ≡ typed self.now };
+}
+
+impl Variable for Scalar {
+    ghost named = { λ s. s.name };
+
+    ghost typed = { λ s. s.ty };
+
+    fn name(&self) -> &Name {
+        &self.name
+    }
+
+    fn ty(&self) -> Ty {
+        self.ty
+    }
+}
+
+impl Variable for Array {
+    ghost named = { λ a. a.name };
+
+    ghost typed = { λ a. a.ty };
+
+    fn name(&self) -> &Name {
+        &self.name
+    }
+
+    fn ty(&self) -> Ty {
+        self.ty
+    }
+}
+
+/// The place of a variable's name, and the count of variables where it isn't there.
+pub fn place_of<T: Variable>(variables: &[T], name: &Name) -> usize
+    ensures value { result ≡ place_in (map T.named variables.now) name.now }
+    ensures bound { result ≤ length variables.now }
 {
-    match arrays {
-        [] => 0,
-        [first, rest @ ..] => {
-            if first.name.is_same(name) {
-                0
-            } else {
-                array_place(rest, name) + 1
-            }
+    variables
+        .iter()
+        .position(|v| v.name().is_same(name))
+        .unwrap_or(variables.len())
+}
+
+/// The type of a variable's words, and signed where there is none of this name.
+pub fn type_of_variable<T: Variable>(variables: &[T], name: &Name) -> Ty
+    ensures { result ≡ type_under T.named T.typed variables.now name.now }
+{
+    variables
+        .iter()
+        .find(|v| v.name().is_same(name))
+        .map_or(Ty::Int, |v| v.ty())
+}
+
+impl Port {
+    /// Whether the port is of this side.
+    pub fn is_at(&self, side: Side) -> bool
+        ensures { result ≡ is_at_of side self.now }
+    {
+        match (side, self.side) {
+            (Side::In, Side::In) | (Side::Out, Side::Out) => true,
+            (Side::In, Side::Out) | (Side::Out, Side::In) => false,
         }
     }
 }
 
-// Whether a port is an in-port.
-fn is_in(side: Side) -> bool
-    ensures { result ≡ is_in_of side }
-{
-    match side {
-        Side::In => true,
-        Side::Out => false,
-    }
-}
-
-// Whether a port is an out-port.
-fn is_out(side: Side) -> bool
-    ensures { result ≡ is_out_of side }
-{
-    match side {
-        Side::In => false,
-        Side::Out => true,
-    }
-}
-
-/// The place of a port's name among the in-ports, and their count where it isn't there.
-pub fn in_place(ports: &[Port], name: &Name) -> usize
-    ensures value { result ≡ place_in (ports_at Side.In ports.now) name.now }
-    ensures within { result ≤ length (ports_at Side.In ports.now) }
+/// The place of a port's name among the ports of this side, and their count where it isn't there.
+pub fn port_place(ports: &[Port], side: Side, name: &Name) -> usize
+    ensures value { result ≡ place_in (ports_at side ports.now) name.now }
+    ensures within { result ≤ length (ports_at side ports.now) }
     ensures bound { result ≤ length ports.now }
 {
-    match ports {
-        [] => 0,
-        [first, rest @ ..] => {
-            if !is_in(first.side) {
-                in_place(rest, name)
-            } else if first.name.is_same(name) {
-                0
-            } else {
-                in_place(rest, name) + 1
-            }
-        }
-    }
+    ports
+        .iter()
+        .filter(|port| port.is_at(side))
+        .position(|port| port.name.is_same(name))
+        .unwrap_or(count_ports(ports, side))
 }
 
-/// The place of a port's name among the out-ports, and their count where it isn't there.
-pub fn out_place(ports: &[Port], name: &Name) -> usize
-    ensures value { result ≡ place_in (ports_at Side.Out ports.now) name.now }
-    ensures within { result ≤ length (ports_at Side.Out ports.now) }
-    ensures bound { result ≤ length ports.now }
+/// The count of ports of this side.
+pub fn count_ports(ports: &[Port], side: Side) -> usize
+    ensures { result ≡ length (ports_at side ports.now) }
 {
-    match ports {
-        [] => 0,
-        [first, rest @ ..] => {
-            if !is_out(first.side) {
-                out_place(rest, name)
-            } else if first.name.is_same(name) {
-                0
-            } else {
-                out_place(rest, name) + 1
-            }
-        }
-    }
-}
-
-/// The count of in-ports.
-pub fn count_ins(ports: &[Port]) -> usize
-    ensures { result ≡ length (ports_at Side.In ports.now) }
-{
-    ports.iter().filter(|q| is_in(q.side)).count()
-}
-
-/// The count of out-ports.
-pub fn count_outs(ports: &[Port]) -> usize
-    ensures { result ≡ length (ports_at Side.Out ports.now) }
-{
-    ports.iter().filter(|q| is_out(q.side)).count()
+    ports.iter().filter(|port| port.is_at(side)).count()
 }

@@ -50,11 +50,11 @@ abbrev Has : List (List ℕ) → List ℕ → Type 0
 Has names name = place_in names name < length names
 
 has_first : (n : List ℕ) (names : List (List ℕ)) (name : List ℕ) → bytes_eq n name ≡ true → Has (n ∷ names) name
-has_first n names name e = subst (λ t. cond t 0 (suc (place_in names name)) < suc (length names)) (sym e) (omega arith)
+has_first n names name e = subst (λ t. cond (not t) (1 + place_in names name) 0 < suc (length names)) (sym e) (omega arith)
 
 has_later : (n : List ℕ) (names : List (List ℕ)) (name : List ℕ) → Has names name → Has (n ∷ names) name
 has_later n names name h = by_test (bytes_eq n name) (has_first n names name)
-    (λ e. subst (λ t. cond t 0 (suc (place_in names name)) < suc (length names)) (sym e) (omega (arith, h)))
+    (λ e. subst (λ t. cond (not t) (1 + place_in names name) 0 < suc (length names)) (sym e) (omega (arith, h)))
 
 -- a declaration that makes a name known has that name
 same_name : (d : Mention) (name : List ℕ) (at : Place) → declares name at d ≡ true → bytes_eq d.name name ≡ true

@@ -11,10 +11,10 @@ use Rattle.pld_base.specs.declared.fault.Limit.TheVariants as limit
 use Rattle.pld_ast.specs.declared.tree.Array.{Array}
 use Rattle.pld_ast.specs.declared.tree.Operator.{Operator}
 use Rattle.pld_ast.specs.Nodes.{action_nodes}
-use Rattle.pld_ast.specs.Resolve.{program_of}
+use Rattle.pld_ast.specs.Resolve.{is_at, program_of}
 use Rattle.pld_ast.specs.Sound.{IsSound, IsKnown}
 use Rattle.pld_check.specs.Known.{AreFilled}
-use Rattle.pld_check.specs.Faults.{passed, place_in_text, words_passed, is_at, ports_passed, nodes_passed, or_else, port_limit_fault, array_limit_fault, limit_fault}
+use Rattle.pld_check.specs.Faults.{passed, place_in_text, words_passed, ports_passed, nodes_passed, or_else, port_limit_fault, array_limit_fault, limit_fault}
 use Rattle.pld_check.proofs.Declaring.{lengths}
 
 first_none : (a b : Option SourceFault) → or_else a b ≡ None → a ≡ None

@@ -16,7 +16,7 @@ use Rattle.pld_ast.specs.declared.tree.Port.{Port}
 use Rattle.pld_ast.specs.declared.tree.Array.{Array}
 use Rattle.pld_ast.specs.declared.tree.Operator.{Operator}
 use Rattle.pld_ast.specs.Nodes.{action_nodes}
-use Rattle.pld_ast.specs.Resolve.{is_in, is_out, program_of}
+use Rattle.pld_ast.specs.Resolve.{is_at, program_of}
 use Rattle.pld_check.specs.declared.roles.Role.{Role}
 use Rattle.pld_check.specs.declared.roles.Role.TheVariants as role
 use Rattle.pld_check.specs.Known.{IsScalar, IsArray, IsPort}
@@ -135,10 +135,6 @@ place_in_text at None = None
 abbrev pub words_passed : ℕ → List Array → Option Place
 words_passed n [] = None
 words_passed n (a ∷ arrays) = if nat_lt 8192 (n + a.len) then Some a.at else words_passed (n + a.len) arrays
-
-abbrev pub is_at : Side → Port → Bool
-is_at side.In q = is_in q.side
-is_at side.Out q = is_out q.side
 
 -- the ninth port of a side
 abbrev pub ports_passed : Side → List Port → Option Place

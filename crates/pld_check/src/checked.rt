@@ -10,8 +10,8 @@ ghost use Rattle.pld_check.specs.Tested.{is_sound as is_sound_program};
 use crate::known::{are_known, both};
 use crate::limits::{MOST_ARRAYS, MOST_NODES, MOST_PORTS, MOST_SCALARS, MOST_WORDS, source_fault};
 use crate::scope::Scoped;
-use pld_ast::{Array, Operator, count_ins, count_outs};
-use pld_base::{NoMemory, Refused, SourceFault};
+use pld_ast::{Array, Operator, count_ports};
+use pld_base::{NoMemory, Refused, Side, SourceFault};
 use std::alloc::Global;
 use std::marker::Model;
 
@@ -79,8 +79,8 @@ fn few_ports(op: &Operator) -> bool
 {
     let ports = op.ports.as_slice();
     both(
-        count_ins(ports) <= MOST_PORTS,
-        count_outs(ports) <= MOST_PORTS,
+        count_ports(ports, Side::In) <= MOST_PORTS,
+        count_ports(ports, Side::Out) <= MOST_PORTS,
     )
 }
 
@@ -162,7 +162,7 @@ impl Checked {
         ensures value { result ≡ (program_of self.now).ins }
         ensures bound { result ≤ 8 }
     {
-        count_ins(self.operator.ports.as_slice()) as u8
+        count_ports(self.operator.ports.as_slice(), Side::In) as u8
     }
 
     /// How many out-ports it has, at most 8.
@@ -170,7 +170,7 @@ impl Checked {
         ensures value { result ≡ (program_of self.now).outs }
         ensures bound { result ≤ 8 }
     {
-        count_outs(self.operator.ports.as_slice()) as u8
+        count_ports(self.operator.ports.as_slice(), Side::Out) as u8
     }
 }
 

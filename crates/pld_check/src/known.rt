@@ -7,11 +7,8 @@ ghost use Rattle.pld_ast.specs.Resolve.{value_in, action_in, block_in, declared_
 ghost use Rattle.pld_ast.specs.Sound.{IsKnownValue, IsKnown};
 ghost use Rattle.pld_check.specs.Known.{IsScalar, IsArray, IsPort, IsKnownTarget};
 
-use pld_ast::{
-    Expr, Operator, Stmt, Target, array_place, count_ins, count_outs, in_place, out_place,
-    scalar_place,
-};
-use pld_base::Name;
+use pld_ast::{Expr, Operator, Stmt, Target, count_ports, place_of, port_place};
+use pld_base::{Name, Side};
 
 /// Whether both hold.
 pub fn both(a: bool, b: bool) -> bool
@@ -32,7 +29,7 @@ fn is_scalar(op: &Operator, name: &Name) -> bool
     ensures { IsTrue result ↔ IsScalar op.now name.now }
 {
     let scalars = op.scalars.as_slice();
-    scalar_place(scalars, name) < scalars.len()
+    place_of(scalars, name) < scalars.len()
 }
 
 // Whether there is an array of this name.
@@ -40,7 +37,7 @@ fn is_array(op: &Operator, name: &Name) -> bool
     ensures { IsTrue result ↔ IsArray op.now name.now }
 {
     let arrays = op.arrays.as_slice();
-    array_place(arrays, name) < arrays.len()
+    place_of(arrays, name) < arrays.len()
 }
 
 // Whether there is an in-port of this name.
@@ -48,7 +45,7 @@ fn is_input(op: &Operator, name: &Name) -> bool
     ensures { IsTrue result ↔ IsPort op.now In name.now }
 {
     let ports = op.ports.as_slice();
-    in_place(ports, name) < count_ins(ports)
+    port_place(ports, Side::In, name) < count_ports(ports, Side::In)
 }
 
 // Whether there is an out-port of this name.
@@ -56,7 +53,7 @@ fn is_output(op: &Operator, name: &Name) -> bool
     ensures { IsTrue result ↔ IsPort op.now Out name.now }
 {
     let ports = op.ports.as_slice();
-    out_place(ports, name) < count_outs(ports)
+    port_place(ports, Side::Out, name) < count_ports(ports, Side::Out)
 }
 
 // Whether the names of an expression are declared.

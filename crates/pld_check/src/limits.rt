@@ -1,10 +1,10 @@
 //! The limits of the language, and the first fault of an operator.
 
 ghost use Rattle.std.specs.Prelude.{◌≡◌, ◌≤◌, filter, slice_get, IfNone, None};
-ghost use Rattle.pld_ast.specs.Resolve.{is_in as is_in_side, is_out as is_out_side, program_of};
+ghost use Rattle.pld_ast.specs.Resolve.{is_at, program_of};
 ghost use Rattle.pld_ast.specs.Sound.{IsSound};
 ghost use Rattle.pld_check.specs.Known.{AreFilled};
-ghost use Rattle.pld_check.specs.Faults.{passed as passed_of, place_in_text, words_passed as words_passed_of, is_at as is_at_side, ports_passed as ports_passed_of, nodes_passed as nodes_passed_of, or_else, port_limit_fault as port_limit_fault_of, array_limit_fault as array_limit_fault_of, limit_fault as limit_fault_of, check_fault};
+ghost use Rattle.pld_check.specs.Faults.{passed as passed_of, place_in_text, words_passed as words_passed_of, ports_passed as ports_passed_of, nodes_passed as nodes_passed_of, or_else, port_limit_fault as port_limit_fault_of, array_limit_fault as array_limit_fault_of, limit_fault as limit_fault_of, check_fault};
 
 use crate::names::{fault_at, wrong_name};
 use crate::scope::Scoped;
@@ -81,30 +81,14 @@ fn words_passed(arrays: &[Array]) -> Option<Place>
     None
 }
 
-// Whether the port is of this side.
-fn is_at(side: Side, port: &Port) -> bool
-    ensures { result ≡ is_at_side side port.now }
-{
-    match side {
-        Side::In => match port.side {
-            Side::In => true,
-            Side::Out => false,
-        },
-        Side::Out => match port.side {
-            Side::In => false,
-            Side::Out => true,
-        },
-    }
-}
-
 // The place of a port of this side, with so many of the side before it.
 fn port_behind(side: Side, ports: &[Port], many: usize) -> Option<Place>
-    ensures { result ≡ place_in_text (λ q. q.at) (slice_get (filter (is_at_side side) ports.now) many) }
+    ensures { result ≡ place_in_text (λ q. q.at) (slice_get (filter (is_at side) ports.now) many) }
 {
     match ports {
         [] => None,
         [first, rest @ ..] => {
-            if !is_at(side, first) {
+            if !first.is_at(side) {
                 port_behind(side, rest, many)
             } else if many == 0 {
                 Some(first.at)

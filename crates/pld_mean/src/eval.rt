@@ -7,7 +7,7 @@ ghost use Rattle.pld_ast.specs.Sound.{IsSound, IsKnownValue};
 ghost use Rattle.pld_mean.specs.Vars.{state_of, rows_of};
 
 use crate::vars::Vars;
-use pld_ast::{Array, Expr, Operator, apply, apply_one, array_place, scalar_place, type_in};
+use pld_ast::{Array, Expr, Operator, apply, apply_one, place_of, type_in};
 
 /// An index, modulo the length of an array that has a word at least.
 pub fn index_at(arrays: &[Array], t: usize, i: u32) -> usize
@@ -40,9 +40,9 @@ pub fn eval(op: &Operator, vars: &Vars, e: &Expr) -> u32
 {
     match e {
         Expr::Lit(v, _) => *v,
-        Expr::Var(u) => vars.scalar(scalar_place(op.scalars.as_slice(), &u.name)),
+        Expr::Var(u) => vars.scalar(place_of(op.scalars.as_slice(), &u.name)),
         Expr::Element(u, i) => {
-            let t = array_place(op.arrays.as_slice(), &u.name);
+            let t = place_of(op.arrays.as_slice(), &u.name);
             element(op, vars, t, eval(op, vars, i.get()))
         }
         Expr::Unary(o, a) => apply_one(*o, eval(op, vars, a.get())),

@@ -12,8 +12,8 @@ ghost use Rattle.pld_mean.specs.Run.{outcome_of, Does};
 
 use crate::eval::{eval, index_at};
 use crate::vars::{CEnd, Flow, Spot, Vars};
-use pld_ast::{Expr, Operator, Stmt, Target, array_place, in_place, out_place, scalar_place};
-use pld_base::{Event, Name, NoMemory, PortNo};
+use pld_ast::{Expr, Operator, Stmt, Target, place_of, port_place};
+use pld_base::{Event, Name, NoMemory, PortNo, Side};
 
 // The variable that a target stands for now.
 fn spot(op: &Operator, vars: &Vars, to: &Target) -> Spot
@@ -22,10 +22,10 @@ fn spot(op: &Operator, vars: &Vars, to: &Target) -> Spot
     ensures there { IsKnownTarget op.now to.now → IsSpot (sizes_in (program_of op.now)) result }
 {
     match to {
-        Target::Scalar(u) => Spot::Scalar(scalar_place(op.scalars.as_slice(), &u.name)),
+        Target::Scalar(u) => Spot::Scalar(place_of(op.scalars.as_slice(), &u.name)),
         Target::Element(u, i) => {
             let arrays = op.arrays.as_slice();
-            let t = array_place(arrays, &u.name);
+            let t = place_of(arrays, &u.name);
             Spot::Element(t, index_at(arrays, t, eval(op, vars, i)))
         }
     }
@@ -57,7 +57,7 @@ fn read(
     ensures does { (n : ℕ) → IfOk result (λ flow. Does (program_of op.now) (map (λ v. v.items) ins.now) n (read_to (declared_in op.now) to.now (place_in (declared_in op.now).ins port.now)) vars.old flow vars.new) }
     ensures sizes { OnOk result (sizes_of vars.new ≡ sizes_of vars.old) }
 {
-    let p = in_place(op.ports.as_slice(), port);
+    let p = port_place(op.ports.as_slice(), Side::In, port);
     let spot = spot(op, vars, to);
     let taken = vars.take(ins, p)?;
     match taken {
@@ -75,7 +75,7 @@ fn write(op: &Operator, vars: &mut Vars, port: &Name, e: &Expr) -> Result<Flow, 
     ensures does { (ins : List (List ℕ)) (n : ℕ) → IfOk result (λ flow. Does (program_of op.now) ins n (write_of (place_in (declared_in op.now).outs port.now) (value_in (declared_in op.now) e.now)) vars.old flow vars.new) }
     ensures sizes { OnOk result (sizes_of vars.new ≡ sizes_of vars.old) }
 {
-    let p = out_place(op.ports.as_slice(), port);
+    let p = port_place(op.ports.as_slice(), Side::Out, port);
     let v = eval(op, vars, e);
     vars.note(Event::Write(PortNo(p as u8), v))?;
     Ok(Flow::Goes)

@@ -6,8 +6,8 @@ ghost use Rattle.pld_ast.specs.Meaning.{start, set_scalar, set_element, and_even
 ghost use Rattle.pld_ast.specs.Resolve.{program_of};
 ghost use Rattle.pld_mean.specs.Vars.{rows_of, state_of, sizes_of, sizes_in, IsSpot, set_spot, left_with, Took};
 
-use pld_ast::{Array, Operator, count_ins};
-use pld_base::{Event, NoMemory, PortNo};
+use pld_ast::{Array, Operator, count_ports};
+use pld_base::{Event, NoMemory, PortNo, Side};
 use std::alloc::Global;
 
 /// How a run ends.
@@ -81,7 +81,7 @@ impl Vars {
     {
         let scalars = zeros(alloc, op.scalars.len())?;
         let arrays = rows(alloc, op.arrays.as_slice())?;
-        let read = unread(alloc, count_ins(op.ports.as_slice()))?;
+        let read = unread(alloc, count_ports(op.ports.as_slice(), Side::In))?;
         Ok(Vars {
             scalars,
             arrays,

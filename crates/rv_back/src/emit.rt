@@ -12,9 +12,9 @@ use crate::templates::{
     put_push, put_read, put_read_at, put_set, put_store, put_write,
 };
 use pld_ast::{
-    Array, Expr, Operator, Stmt, Target, array_place, in_place, out_place, scalar_place, type_in,
+    Array, Expr, Operator, Stmt, Target, place_of, port_place, type_in,
 };
-use pld_base::NoMemory;
+use pld_base::{NoMemory, Side};
 use rv_isa::{Instr, Reg, Shift};
 
 // A literal or a scalar.
@@ -59,11 +59,11 @@ pub fn put_value(code: &mut Vec<Instr>, op: &Operator, e: &Expr) -> Result<(), N
 {
     match e {
         Expr::Lit(v, _) => put_const(code, Reg::new(10), *v),
-        Expr::Var(u) => put_get(code, scalar_place(op.scalars.as_slice(), &u.name)),
+        Expr::Var(u) => put_get(code, place_of(op.scalars.as_slice(), &u.name)),
         Expr::Element(u, i) => {
             put_value(code, op, i.get())?;
             let arrays = op.arrays.as_slice();
-            put_address(code, arrays, array_place(arrays, &u.name))?;
+            put_address(code, arrays, place_of(arrays, &u.name))?;
             put_load(code)
         }
         Expr::Unary(o, a) => {
@@ -92,12 +92,12 @@ fn put_assign(code: &mut Vec<Instr>, op: &Operator, to: &Target, e: &Expr) -> Re
     match to {
         Target::Scalar(u) => {
             put_value(code, op, e)?;
-            put_set(code, scalar_place(op.scalars.as_slice(), &u.name))
+            put_set(code, place_of(op.scalars.as_slice(), &u.name))
         }
         Target::Element(u, i) => {
             put_value(code, op, i)?;
             let arrays = op.arrays.as_slice();
-            put_address(code, arrays, array_place(arrays, &u.name))?;
+            put_address(code, arrays, place_of(arrays, &u.name))?;
             put_push(code)?;
             put_value(code, op, e)?;
             put_pop(code)?;
@@ -113,11 +113,11 @@ fn put_input(code: &mut Vec<Instr>, op: &Operator, to: &Target, port: usize) -> 
     ensures { OnOk result (code.new.items ≡ code.old.items ++ action_code (program_of op.now).lengths (read_to (declared_in op.now) to.now port)) }
 {
     match to {
-        Target::Scalar(u) => put_read(code, scalar_place(op.scalars.as_slice(), &u.name), port),
+        Target::Scalar(u) => put_read(code, place_of(op.scalars.as_slice(), &u.name), port),
         Target::Element(u, i) => {
             put_value(code, op, i)?;
             let arrays = op.arrays.as_slice();
-            put_address(code, arrays, array_place(arrays, &u.name))?;
+            put_address(code, arrays, place_of(arrays, &u.name))?;
             put_read_at(code, port)
         }
     }
@@ -132,11 +132,11 @@ fn put_statement(code: &mut Vec<Instr>, op: &Operator, s: &Stmt) -> Result<(), N
     match s {
         Stmt::Assign(to, e) => put_assign(code, op, to, e),
         Stmt::Read(to, port) => {
-            put_input(code, op, to, in_place(op.ports.as_slice(), &port.name))
+            put_input(code, op, to, port_place(op.ports.as_slice(), Side::In, &port.name))
         }
         Stmt::Write(port, e) => {
             put_value(code, op, e)?;
-            put_write(code, out_place(op.ports.as_slice(), &port.name))
+            put_write(code, port_place(op.ports.as_slice(), Side::Out, &port.name))
         }
         Stmt::If(test, yes, no) => {
             put_value(code, op, test)?;

@@ -15,8 +15,8 @@ put_statement-returns-in_ok-value-in-Write t c =
     let d = declared_in c.args.op.now in
     let old = made_in c.args.b.now in
     let new = made_in c.put_write.new.self in
-    let there = c.out_place-place.ensures.value ∙ ap (λ x. place_in (ports_at Out x) c.in-Write.port.name) c.as_slice-in-Write.ensures in
-    on_ok c.put_write.result (λ h. subst (λ s. HasSpace old (action_in d s) → new ≡ after old (action_in d s)) (sym c.in-Write.is) (write_put (place_in d.outs c.in-Write.port.name) c.out_place-place.result (value_in d c.in-Write.e) old (made_in c.put_value.new.b) new c.in_ok-value-in-Write.value there c.in_ok-value-in-Write.ensures h)) c.put_write.ensures
+    let there = c.port_place-place-in-Write.ensures.value ∙ ap (λ x. place_in (ports_at Out x) c.in-Write.port.name) c.as_slice-in-Write.ensures in
+    on_ok c.put_write.result (λ h. subst (λ s. HasSpace old (action_in d s) → new ≡ after old (action_in d s)) (sym c.in-Write.is) (write_put (place_in d.outs c.in-Write.port.name) c.port_place-place-in-Write.result (value_in d c.in-Write.e) old (made_in c.put_value.new.b) new c.in_ok-value-in-Write.value there c.in_ok-value-in-Write.ensures h)) c.put_write.ensures
 
 pub put_statement-returns-in_ok-end-in-If-3 : goal.put_statement-returns-in_ok-end-in-If-3
 put_statement-returns-in_ok-end-in-If-3 t c =

@@ -17,4 +17,4 @@ returns-in-Binary t c = λ ins.
 
 pub returns-in-Element : goal.returns-in-Element
 returns-in-Element t c = λ ins.
-    element_value (program_of c.args.op.now) (declared_in c.args.op.now) (state_of ins c.args.vars.now) c.args.e.now _ _ c.in-Element.u c.array_place-t.result c.eval.result c.element.result c.in-Element.is c.get.ensures (c.array_place-t.ensures.value ∙ ap (λ xs. place_in (map (λ a. a.name) xs) c.in-Element.u.name) c.as_slice-in-Element.ensures) (c.eval.ensures ins) c.element.ensures
+    element_value (program_of c.args.op.now) (declared_in c.args.op.now) (state_of ins c.args.vars.now) c.args.e.now _ _ c.in-Element.u c.place_of-t.result c.eval.result c.element.result c.in-Element.is c.get.ensures (c.place_of-t.ensures.value ∙ ap (λ xs. place_in (map (λ a. a.name) xs) c.in-Element.u.name) c.as_slice-in-Element.ensures) (c.eval.ensures ins) c.element.ensures
