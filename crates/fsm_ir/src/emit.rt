@@ -8,9 +8,7 @@ ghost use Rattle.fsm_ir.specs.Building.{made_in, piece_in, after, HasRoom, HasTe
 use crate::block::{Block, Lowered};
 use crate::builder::Builder;
 use fsm_core::Next;
-use pld_ast::{
-    Expr, Operator, Stmt, Target, Used, place_of, port_place, type_in,
-};
+use pld_ast::{Expr, Operator, Stmt, Target, Used, place_of, port_place, type_in};
 use pld_base::{NoMemory, Side};
 use pld_check::Checked;
 use std::alloc::Global;

@@ -11,9 +11,7 @@ use crate::templates::{
     put, put_aside, put_back, put_const, put_end, put_get, put_load, put_op1, put_op2, put_pop,
     put_push, put_read, put_read_at, put_set, put_store, put_write,
 };
-use pld_ast::{
-    Array, Expr, Operator, Stmt, Target, place_of, port_place, type_in,
-};
+use pld_ast::{Array, Expr, Operator, Stmt, Target, place_of, port_place, type_in};
 use pld_base::{NoMemory, Side};
 use rv_isa::{Instr, Reg, Shift};
 
@@ -132,7 +130,12 @@ fn put_statement(code: &mut Vec<Instr>, op: &Operator, s: &Stmt) -> Result<(), N
     match s {
         Stmt::Assign(to, e) => put_assign(code, op, to, e),
         Stmt::Read(to, port) => {
-            put_input(code, op, to, port_place(op.ports.as_slice(), Side::In, &port.name))
+            put_input(
+                code,
+                op,
+                to,
+                port_place(op.ports.as_slice(), Side::In, &port.name),
+            )
         }
         Stmt::Write(port, e) => {
             put_value(code, op, e)?;
