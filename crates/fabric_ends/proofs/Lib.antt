@@ -1,0 +1,15 @@
+pub mod Carrying
+pub mod Plans
+pub mod Wired
+pub mod Promised
+pub mod Agreeing
+pub mod PlainRuns
+pub mod Resting
+pub mod Entries
+pub mod Stillness
+pub mod Gaining
+pub mod Reach
+pub mod Using
+pub mod Enough
+pub mod Spending
+pub mod Once

@@ -1,0 +1,10 @@
+pub mod Measure
+pub mod Facts
+pub mod Links
+pub mod Paths
+pub mod Parts
+pub mod Configuring
+pub mod Whole
+pub mod Holding
+pub mod Calls
+pub mod Carriers
