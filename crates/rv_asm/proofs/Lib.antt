@@ -1,0 +1,10 @@
+pub mod Bounds
+pub mod Counting
+pub mod Joining
+pub mod Lining
+pub mod Mnemonics
+pub mod Plain
+pub mod ReadBack
+pub mod Rereading
+pub mod Whole
+pub mod Wording
