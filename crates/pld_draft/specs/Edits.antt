@@ -1,5 +1,5 @@
 -- Edits of a draft: what each makes of it, and when it is refused.
-use Rattle.std.specs.Prelude.{◌≡◌, ℕ, ◌+◌, nat_le, List, [], ◌∷◌, ◌++◌, length, filter, remove, slice_set, slice_index_or, Option, Some, None, Result, Ok, Err, if◌then◌else◌}
+use Rattle.std.specs.Prelude.{◌≡◌, ℕ, ◌+◌, nat_le, Bool, List, [], ◌∷◌, ◌++◌, length, filter, remove, slice_set, slice_index_or, Option, Some, None, Result, Ok, Err, if◌then◌else◌}
 use Rattle.std.specs.Str.{bytes_eq}
 use Rattle.pld_base.specs.declared.event.End.{End}
 use Rattle.pld_base.specs.declared.event.Kind.{Kind}
@@ -9,7 +9,7 @@ use Rattle.pld_graph.specs.declared.parts.Cut.{Cut}
 use Rattle.pld_graph.specs.declared.parts.GraphFault.{GraphFault}
 use Rattle.pld_graph.specs.declared.parts.GraphFault.TheVariants.{UnknownOperator, NotLinked}
 use Rattle.pld_graph.specs.Design.{Design, place_of, is_input}
-use Rattle.pld_graph.specs.Edits.{add_refusal, with_operator, replaced, removed, connected, with_input, with_output, disconnected, pinned, unpinned, repaged}
+use Rattle.pld_graph.specs.Edits.{add_refusal, with_operator, replaced, removed, connected, with_input, with_output, disconnected, pinned, unpinned, repaged, patterned, windowed}
 use Rattle.pld_source.specs.Reading.{Reading, Faulty, Reads, reading}
 use Rattle.pld_draft.specs.declared.parts.Source.{Source}
 use Rattle.pld_draft.specs.declared.parts.Feed.{Feed}
@@ -72,7 +72,7 @@ replace_at (Some k) name kind text d = replace_read k name kind text d (reading 
 abbrev pub replace : List ℕ → Kind → List ℕ → DraftState → Edited
 replace name kind text d = replace_at (place_of name d.design) name kind text d
 
--- ---- remove, connect, disconnect, input, output, pin, unpin, pages: as in the design
+-- ---- remove, connect, disconnect, input, output, pin, unpin, pages, levels, window: as in the design
 
 -- the feeds of the inputs that the design has
 abbrev pub standing : Design → List Feed → List Feed
@@ -107,6 +107,13 @@ unpin name d = by_design (unpinned name d.design) (with_design d)
 
 abbrev pub pages : ℕ → DraftState → Edited
 pages depth d = by_design (repaged depth d.design) (with_design d)
+
+abbrev pub levels : List Bool → DraftState → Edited
+levels two d = by_design (patterned two d.design) (with_design d)
+
+-- never refused
+abbrev pub window : ℕ → DraftState → Edited
+window size d = by_design (Ok (windowed size d.design)) (with_design d)
 
 -- ---- feed and clear: the input is there
 
@@ -155,6 +162,8 @@ edited (says.Output from name) d = output from name d
 edited (says.Pin name leaf) d = pin name leaf d
 edited (says.Unpin name) d = unpin name d
 edited (says.Pages depth) d = pages depth d
+edited (says.Levels two) d = levels two d
+edited (says.Window size) d = window size d
 edited (says.Feed name words) d = feed name words d
 edited (says.Clear name) d = clear name d
 

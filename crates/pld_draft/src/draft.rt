@@ -2,13 +2,13 @@
 
 ghost use Rattle.std.specs.Prelude.{◌≡◌, ◌≤◌};
 ghost use Rattle.pld_draft.specs.Draft.{at_first, words_of as words_of_input, IsKept};
-ghost use Rattle.pld_draft.specs.Edits.{op as op_edit, replace as replace_edit, remove_operator, connect as connect_edit, disconnect as disconnect_edit, input as input_edit, output as output_edit, pin as pin_edit, unpin as unpin_edit, pages as pages_edit, feed as feed_edit, clear as clear_edit, edited, Tries};
+ghost use Rattle.pld_draft.specs.Edits.{op as op_edit, replace as replace_edit, remove_operator, connect as connect_edit, disconnect as disconnect_edit, input as input_edit, output as output_edit, pin as pin_edit, unpin as unpin_edit, pages as pages_edit, levels as levels_edit, window as window_edit, feed as feed_edit, clear as clear_edit, edited, Tries};
 
 use crate::feeds::{append, drop_lost, empty, words_in};
 use crate::parts::{EditFault, EditRefusal, Feed, Source};
 use pld_base::{End, Kind, Name};
 use pld_graph::{Cut, Graph, GraphFault};
-use pld_script::{Depth, Edit, Text, WordList};
+use pld_script::{Depth, Edit, Levels, Text, Window, WordList};
 use pld_source::read_operator;
 use std::alloc::Global;
 use std::marker::Model;
@@ -89,7 +89,9 @@ impl Draft {
     /// - `Replace` gives an operator a new kind and text; its place, its pin and its channels stay: `UnknownOperator` where no
     ///   operator has this name; `Source` where the text has a fault; `UnknownPort` where a channel stands at a port that the new
     ///   text lacks.
-    /// - `Remove`, `Connect`, `Disconnect`, `Output`, `Pin`, `Unpin` and `Pages` are as in `Graph`. An input's words go with it.
+    /// - `Remove`, `Connect`, `Disconnect`, `Output`, `Pin`, `Unpin`, `Pages` and `Levels` are as in `Graph`. An input's words go
+    ///   with it.
+    /// - `Window` sets how many words each channel holds; it is never refused.
     /// - `Input` adds an input without words, as `Graph::input`.
     /// - `Feed` appends words to those of an input: `NotLinked` where no input has this name; `TooManyWords` where it would have
     ///   more than 65,536.
@@ -108,6 +110,8 @@ impl Draft {
             Edit::Pin(name, leaf) => self.pin(name, leaf),
             Edit::Unpin(name) => self.unpin(name),
             Edit::Pages(depth) => self.pages(depth),
+            Edit::Levels(levels) => self.levels(&levels),
+            Edit::Window(window) => self.window(window),
             Edit::Feed(name, words) => self.feed(name, &words),
             Edit::Clear(name) => self.clear(name),
         }
@@ -220,6 +224,20 @@ impl Draft {
         ensures { Tries result (pages_edit depth self.old) self.old self.new }
     {
         self.graph.set_pages(depth.levels())?;
+        Ok(())
+    }
+
+    fn levels(&mut self, levels: &Levels) -> Result<(), EditFault>
+        ensures { Tries result (levels_edit levels.now self.old) self.old self.new }
+    {
+        self.graph.set_levels(levels.as_slice())?;
+        Ok(())
+    }
+
+    fn window(&mut self, window: Window) -> Result<(), EditFault>
+        ensures { Tries result (window_edit window self.old) self.old self.new }
+    {
+        self.graph.set_window(window.words());
         Ok(())
     }
 

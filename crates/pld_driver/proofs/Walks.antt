@@ -300,6 +300,8 @@ quit_is (Some (says.Edit edit)) h = cc
 quit_is (Some says.Build) h = cc
 quit_is (Some says.Run) h = cc
 quit_is (Some (says.DumpImage name)) h = cc
+quit_is (Some says.DumpTables) h = cc
+quit_is (Some says.Stats) h = cc
 quit_is (Some says.Quit) h = refl
 
 pub ends_quit : {S R : Type 0} (step : S → Placed → Step S R) (Fits : S → R → Type 0) (ended : Bool) (text : List ℕ) (from at : Point S R) (told : Option Statement) (blank own used : ℕ)

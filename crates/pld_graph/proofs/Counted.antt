@@ -1,5 +1,5 @@
 -- Inputs and outputs, counted where channels come and go.
-use Rattle.std.proofs.Common.{◌≡◌, ℕ, zero, suc, ◌+◌, ◌-◌, ◌≤◌, List, [], ◌∷◌, ◌++◌, length, Option, Some, None, refl, sym, ap, ◌∙◌, arith, slice_get, length-append}
+use Rattle.std.proofs.Common.{◌≡◌, ℕ, zero, suc, ◌+◌, ◌-◌, ◌≤◌, List, [], ◌∷◌, ◌++◌, length, Option, Some, None, sym, ap, ◌∙◌, arith, slice_get, length-append}
 use Rattle.std.specs.Prelude.{remove}
 use Rattle.std.specs.List.{filter_map, cons_option}
 use Rattle.std.proofs.lemmas.Option.{none-some, same_Some}
@@ -9,7 +9,6 @@ use Rattle.pld_graph.specs.declared.parts.FromEnd.{FromEnd}
 use Rattle.pld_graph.specs.declared.parts.ToEnd.{ToEnd}
 use Rattle.pld_graph.specs.declared.parts.Channel.{Channel}
 use Rattle.pld_graph.specs.Parts.{from_input, to_output}
-use Rattle.pld_graph.specs.Design.{inputs, outputs}
 use Rattle.pld_graph.specs.Joined.{channel_of, joined}
 use Rattle.pld_graph.specs.Masks.{ones, AreCounted}
 use Rattle.pld_graph.proofs.Ended.{filter_map-map}

@@ -1,5 +1,5 @@
 -- A number whose bits tell to which leaves operators are pinned.
-use Rattle.std.proofs.Common.{◌≡◌, ℕ, zero, suc, ◌+◌, ◌-◌, ◌*◌, ◌/◌, ◌%◌, ◌^◌, ◌<◌, ◌≤◌, Bool, true, false, true≢false, cond, ◌&&◌, ◌||◌, not, List, [], ◌∷◌, ◌++◌, length, Option, Some, None, refl, sym, ap, ◌∙◌, subst, arith, w64, if◌then◌else◌}
+use Rattle.std.proofs.Common.{◌≡◌, ℕ, zero, suc, ◌+◌, ◌*◌, ◌/◌, ◌%◌, ◌^◌, ◌<◌, ◌≤◌, Bool, true, false, true≢false, cond, ◌&&◌, ◌||◌, not, List, [], ◌∷◌, ◌++◌, length, Option, Some, None, refl, sym, ap, ◌∙◌, subst, arith, w64, if◌then◌else◌}
 use Rattle.std.specs.Prelude.{◌==◌, nat_lt, bit_and, bit_or, slice_get, slice_set, remove, IfSome}
 use Rattle.std.specs.Int.{bit_at, bit_not}
 use Rattle.std.specs.List.{count_by, list_any}
@@ -15,7 +15,7 @@ use Rattle.pld_graph.specs.Entries.{listed}
 use Rattle.pld_graph.specs.declared.parts.OperatorEntry.{OperatorEntry}
 use Rattle.pld_graph.specs.Parts.{passes}
 use Rattle.pld_graph.specs.Design.{Design, blank, operator_at, place_from, is_called}
-use Rattle.pld_graph.specs.Edits.{is_rival, is_outside}
+use Rattle.pld_graph.specs.Edits.{is_rival}
 use Rattle.pld_graph.specs.Sound.{IsSound, is_pinned}
 use Rattle.pld_graph.specs.Masks.{IsMask}
 use Rattle.pld_graph.proofs.Sounds.{none_counted, found_here}

@@ -12,10 +12,11 @@ use Rattle.std.proofs.lemmas.List.Filters.{sum_by-filter_both}
 use Rattle.pld_base.specs.declared.event.End.{End}
 use Rattle.pld_base.specs.declared.event.Side.{Side}
 use Rattle.pld_base.specs.declared.event.Side.TheVariants.{In, Out}
+use Rattle.net_switch.specs.declared.packet.Pattern.{Pattern}
 use Rattle.pld_graph.specs.declared.parts.Channel.{Channel}
 use Rattle.pld_graph.specs.declared.parts.OperatorEntry.{OperatorEntry}
 use Rattle.pld_graph.specs.Parts.{same_side, same_end, is_below, is_lost, from_port, to_port, from_input, to_output, passes, stands_at, is_host}
-use Rattle.pld_graph.specs.Design.{Design, inputs, outputs, is_linked, is_named, place_from, place_of, operator_at, blank, is_called, owns, has_port}
+use Rattle.pld_graph.specs.Design.{Design, plain, inputs, outputs, is_linked, is_named, place_from, place_of, operator_at, blank, is_called, owns, has_port}
 use Rattle.pld_graph.specs.Edits.{is_leaf, is_outside, is_rival, with_operator, with_channel, set_operator}
 use Rattle.pld_graph.specs.Sound.{IsSound, every, is_within, is_directed, is_pinned}
 
@@ -225,6 +226,7 @@ add_sound d name ins outs few free s =
     record {
       least = s.least;
       most = s.most;
+      window = s.window;
       operators = omega (arith, l, below);
       channels = s.channels;
       inputs = s.inputs;
@@ -247,6 +249,7 @@ set_sound : (d : Design) (k : ℕ) (o : OperatorEntry) → k < length d.operator
 set_sound d k o there same alone within keeps s = record {
   least = s.least;
   most = s.most;
+  window = s.window;
   operators = subst (λ n. n ≤ 63) (sym (length-set d.operators k o)) s.operators;
   channels = s.channels;
   inputs = s.inputs;
@@ -363,6 +366,7 @@ cut_sound d p s =
     record {
       least = s.least;
       most = s.most;
+      window = s.window;
       operators = s.operators;
       channels = omega (arith, l, m, most);
       inputs = omega (arith, i, ins);
@@ -383,6 +387,7 @@ drop_sound d k within others s =
     record {
       least = s.least;
       most = s.most;
+      window = s.window;
       operators = omega (arith, l, few);
       channels = s.channels;
       inputs = s.inputs;
@@ -405,10 +410,11 @@ pin_stays old new None e n = refl
 pin_stays old new (Some l) e n = and_not (nat_lt 0 l) (nat_lt l (2 ^ old)) (nat_lt l (2 ^ new)) e n
 
 -- another depth
-pub repage_sound : (d : Design) (n : ℕ) → 1 ≤ n → n ≤ 6 → list_any (is_outside n) d.operators ≡ false → IsSound d → IsSound (record d { depth = n })
+pub repage_sound : (d : Design) (n : ℕ) → 1 ≤ n → n ≤ 6 → list_any (is_outside n) d.operators ≡ false → IsSound d → IsSound (record d { depth = n; pattern = plain })
 repage_sound d n least most inside s = record {
   least = least;
   most = most;
+  window = s.window;
   operators = s.operators;
   channels = s.channels;
   inputs = s.inputs;
@@ -416,6 +422,42 @@ repage_sound d n least most inside s = record {
   names = s.names;
   alone = s.alone;
   pins = λ k x l. pin_stays d.depth n (slice_index_or d.operators k x).pin (s.pins k x l) (none_all (is_outside n) d.operators inside k x l);
+  sides = s.sides;
+  once = s.once;
+  ends = s.ends;
+}
+
+-- another pattern of links
+pub pattern_sound : (d : Design) (p : Pattern) → IsSound d → IsSound (record d { pattern = p })
+pattern_sound d p s = record {
+  least = s.least;
+  most = s.most;
+  window = s.window;
+  operators = s.operators;
+  channels = s.channels;
+  inputs = s.inputs;
+  outputs = s.outputs;
+  names = s.names;
+  alone = s.alone;
+  pins = s.pins;
+  sides = s.sides;
+  once = s.once;
+  ends = s.ends;
+}
+
+-- another window
+pub window_sound : (d : Design) (w : ℕ) → 1 ≤ w → w ≤ 64 → IsSound d → IsSound (record d { window = w })
+window_sound d w least most s = record {
+  least = s.least;
+  most = s.most;
+  window = (least, most);
+  operators = s.operators;
+  channels = s.channels;
+  inputs = s.inputs;
+  outputs = s.outputs;
+  names = s.names;
+  alone = s.alone;
+  pins = s.pins;
   sides = s.sides;
   once = s.once;
   ends = s.ends;
@@ -443,6 +485,7 @@ put_sound d c there_from there_to few ins outs directed from to free s =
     record {
       least = s.least;
       most = s.most;
+      window = s.window;
       operators = s.operators;
       channels = omega (arith, l, below);
       inputs = subst (λ n. n ≤ 8) (sym i) ins;

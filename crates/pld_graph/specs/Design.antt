@@ -1,10 +1,11 @@
 -- A design, and what stands in it.
-use Rattle.std.specs.Prelude.{ℕ, ◌+◌, zero, suc, Bool, false, ◌||◌, List, [], ◌∷◌, Option, Some, None, is_some, slice_index_or, if◌then◌else◌}
+use Rattle.std.specs.Prelude.{ℕ, ◌+◌, zero, suc, Bool, false, ◌||◌, List, [], ◌∷◌, Option, Some, None, is_some, slice_index_or, replicate, if◌then◌else◌}
 use Rattle.std.specs.List.{list_any, filter_map, find}
 use Rattle.std.specs.Str.{bytes_eq}
 use Rattle.pld_base.specs.declared.event.End.{End}
 use Rattle.pld_base.specs.declared.event.Side.{Side}
 use Rattle.pld_base.specs.declared.event.Side.TheVariants.{In, Out}
+use Rattle.net_switch.specs.declared.packet.Pattern.{Pattern}
 use Rattle.pld_graph.specs.declared.parts.Channel.{Channel}
 use Rattle.pld_graph.specs.declared.parts.OperatorEntry.{OperatorEntry}
 use Rattle.pld_graph.specs.Parts.{same_end, is_below, stands_at, is_host, from_input, to_output, passes}
@@ -16,9 +17,17 @@ pub record Design : Type 0 where
   pub channels : List Channel
   -- of the tree of switches, which has 2 ^ depth leaves
   pub depth : ℕ
+  -- which levels of the tree have two upward links for each switch
+  pub pattern : Pattern
+  -- how many words a channel holds
+  pub window : ℕ
+
+-- one upward link for each switch
+abbrev pub plain : Pattern
+plain = record { two = replicate 7 false }
 
 abbrev pub fresh : ℕ → Design
-fresh depth = record { operators = []; channels = []; depth = depth }
+fresh depth = record { operators = []; channels = []; depth = depth; pattern = plain; window = 16 }
 
 -- the place of the first operator of this name, where places are counted from n
 abbrev pub place_from : ℕ → List ℕ → List OperatorEntry → Option ℕ

@@ -1,6 +1,6 @@
 -- Edits of a design: what each makes of it, and when it is refused. The tests of an edit are made in order, and
 -- the first that fails tells the refusal.
-use Rattle.std.specs.Prelude.{◌≡◌, ℕ, ◌==◌, ◌^◌, Bool, ◌&&◌, not, nat_le, nat_lt, List, [], ◌∷◌, ◌++◌, Option, Some, None, is_none, Result, Ok, Err, IsOk, length, filter, remove, slice_set, if◌then◌else◌}
+use Rattle.std.specs.Prelude.{◌≡◌, ℕ, ◌+◌, ◌-◌, ◌==◌, ◌^◌, Bool, false, ◌&&◌, not, nat_le, nat_lt, List, [], ◌∷◌, ◌++◌, Option, Some, None, is_none, Result, Ok, Err, IsOk, length, filter, remove, replicate, slice_set, if◌then◌else◌}
 use Rattle.std.specs.List.{list_any}
 use Rattle.std.specs.Str.{bytes_eq}
 use Rattle.pld_base.specs.declared.event.End.{End}
@@ -8,6 +8,7 @@ use Rattle.pld_base.specs.declared.event.Side.{Side}
 use Rattle.pld_base.specs.declared.event.Side.TheVariants.{In, Out}
 use Rattle.pld_base.specs.declared.memory.Refused.{Refused}
 use Rattle.pld_base.specs.declared.memory.Refused.TheVariants.{Fault, NoMemory}
+use Rattle.net_switch.specs.declared.packet.Pattern.{Pattern}
 use Rattle.pld_graph.specs.declared.parts.FromEnd.TheVariants as from_end
 use Rattle.pld_graph.specs.declared.parts.ToEnd.TheVariants as to_end
 use Rattle.pld_graph.specs.declared.parts.Channel.{Channel}
@@ -15,9 +16,9 @@ use Rattle.pld_graph.specs.declared.parts.Cut.{Cut}
 use Rattle.pld_graph.specs.declared.parts.Cut.TheVariants as cut
 use Rattle.pld_graph.specs.declared.parts.OperatorEntry.{OperatorEntry}
 use Rattle.pld_graph.specs.declared.parts.GraphFault.{GraphFault}
-use Rattle.pld_graph.specs.declared.parts.GraphFault.TheVariants.{UnknownOperator, UnknownPort, WrongDirection, PortTaken, NameTaken, LeafTaken, LeafRange, NotLinked, TooMany}
+use Rattle.pld_graph.specs.declared.parts.GraphFault.TheVariants.{UnknownOperator, UnknownPort, WrongDirection, PortTaken, NameTaken, LeafTaken, LeafRange, NotLinked, TooMany, LevelCount}
 use Rattle.pld_graph.specs.Parts.{same_side, is_of, is_lost, is_cut, is_host, passes, stands_at}
-use Rattle.pld_graph.specs.Design.{Design, place_of, operator_at, inputs, outputs, is_named, is_linked, has_port}
+use Rattle.pld_graph.specs.Design.{Design, plain, place_of, operator_at, inputs, outputs, is_named, is_linked, has_port}
 
 -- the fault, where this holds
 abbrev pub when : Bool → GraphFault → Option GraphFault
@@ -150,9 +151,21 @@ unpinned name d = at_place (place_of name d) (λ k. Ok (set_pin k None d))
 abbrev pub is_outside : ℕ → OperatorEntry → Bool
 is_outside depth o = passes (λ l. not (nat_lt l (2 ^ depth))) o.pin
 
--- another depth
+-- another depth, and one upward link for each switch
 abbrev pub repaged : ℕ → Design → Result Design GraphFault
-repaged depth d = unless (when (list_any (is_outside depth) d.operators) LeafRange) (record d { depth = depth })
+repaged depth d = unless (when (list_any (is_outside depth) d.operators) LeafRange) (record d { depth = depth; pattern = plain })
+
+-- the pattern of a tree whose levels from 1 up, as many as are told, have two upward links for each switch where it says so
+abbrev pub pattern_of : List Bool → Pattern
+pattern_of levels = record { two = false ∷ levels ++ replicate (6 - length levels) false }
+
+-- another pattern of links: a tree's levels are all but its topmost
+abbrev pub patterned : List Bool → Design → Result Design GraphFault
+patterned levels d = unless (when (not (length levels + 1 == d.depth)) LevelCount) (record d { pattern = pattern_of levels })
+
+-- another window of the channels
+abbrev pub windowed : ℕ → Design → Design
+windowed window d = record d { window = window }
 
 -- the refusal of a test
 abbrev pub fault_in : {X : Type 0} → Result X GraphFault → Option GraphFault

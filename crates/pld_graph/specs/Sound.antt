@@ -28,6 +28,7 @@ is_pinned leaf o = passes (λ l. l == leaf) o.pin
 pub record IsSound (d : Design) : Type 0 where
   pub least : 1 ≤ d.depth
   pub most : d.depth ≤ 6
+  pub window : (1 ≤ d.window) × (d.window ≤ 64)
   pub operators : length d.operators ≤ 63
   pub channels : length d.channels ≤ 256
   pub inputs : length (inputs d.channels) ≤ 8

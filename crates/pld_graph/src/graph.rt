@@ -7,11 +7,12 @@ ghost use Rattle.pld_graph.specs.declared.parts.GraphFault.TheVariants.{NameTake
 ghost use Rattle.pld_graph.specs.Design.{Design, fresh, place_of as place_in, operator_at, pin_in, is_named, inputs as inputs_of, outputs as outputs_of, is_input as is_input_of, has_port, open_port};
 ghost use Rattle.std.specs.List.{list_any};
 ghost use Rattle.pld_graph.specs.Sound.{IsSound};
-ghost use Rattle.pld_graph.specs.Edits.{is_rival, when, with_channel, add_refusal, added, replaced, removed, connect_refusal, connected, with_input, with_output, disconnected, cut_refusal, pinned, unpinned, repaged, unknown, misdirected, lacking, taken, full, host_refusal, fault_in, Edits, Tries};
+ghost use Rattle.pld_graph.specs.Edits.{is_rival, when, with_channel, add_refusal, added, replaced, removed, connect_refusal, connected, with_input, with_output, disconnected, cut_refusal, pinned, unpinned, repaged, patterned, windowed, unknown, misdirected, lacking, taken, full, host_refusal, fault_in, Edits, Tries};
 
 use crate::channels::Channels;
 use crate::operators::Operators;
 use crate::{Channel, Cut, FromEnd, GraphFault, OpenPort, ToEnd, looks};
+use net_switch::Pattern;
 use pld_base::{End, Name, NoMemory, Refused, Side};
 use std::alloc::Global;
 use std::marker::Model;
@@ -22,8 +23,11 @@ const MOST_CHANNELS: usize = 256;
 // Of inputs, and of outputs.
 const MOST_HOSTS: usize = 8;
 
-/// A design: operators with their counts of ports and their pins, channels between ports, inputs and outputs, and the depth
-/// of the tree of switches.
+// How many words a channel holds, until `set_window` names another number.
+const WINDOW: u8 = 16;
+
+/// A design: operators with their counts of ports and their pins, channels between ports, inputs and outputs, depth and links
+/// of the tree of switches, and how many words a channel holds.
 ///
 /// Operators, channels, inputs and outputs are listed in the order in which they were declared; a removal closes up. An edit
 /// is refused with the first of its faults that applies, in the order in which its text names them, and then changes nothing.
@@ -36,6 +40,8 @@ pub struct Graph {
     operators: Operators,
     channels: Channels,
     depth: u8,
+    pattern: Pattern,
+    window: u8,
 }
 
 impl Model for Graph {
@@ -44,9 +50,9 @@ impl Model for Graph {
 
     ghost Value = { Design };
 
-    ghost view = { λ g. record { operators = g.operators; channels = g.channels; depth = g.depth } };
+    ghost view = { λ g. record { operators = g.operators; channels = g.channels; depth = g.depth; pattern = g.pattern; window = g.window } };
 
-    ghost invariant = { λ g. IsSound (record { operators = g.operators; channels = g.channels; depth = g.depth }) };
+    ghost invariant = { λ g. IsSound (record { operators = g.operators; channels = g.channels; depth = g.depth; pattern = g.pattern; window = g.window }) };
 }
 
 // The fault, where this holds.
@@ -67,7 +73,8 @@ fn directed(end: &End, side: Side) -> Result<(), GraphFault>
 }
 
 impl Graph {
-    /// A design without operators. The depth of its tree is from 1 to 6.
+    /// A design without operators. The depth of its tree is from 1 to 6; each switch has one upward link, and each channel
+    /// holds 16 words.
     pub fn new(alloc: Global, depth: u8) -> Graph
         requires least { 1 ≤ depth }
         requires most { depth ≤ 6 }
@@ -77,6 +84,8 @@ impl Graph {
             operators: Operators::new(alloc),
             channels: Channels::new(alloc),
             depth,
+            pattern: Pattern::plain(),
+            window: WINDOW,
         }
     }
 
@@ -87,6 +96,22 @@ impl Graph {
         ensures most { result ≤ 6 }
     {
         self.depth
+    }
+
+    /// Which levels of the tree have two upward links for each switch.
+    pub fn pattern(&self) -> Pattern
+        ensures { result ≡ self.now.pattern }
+    {
+        self.pattern
+    }
+
+    /// How many words each channel holds.
+    pub fn window(&self) -> u8
+        ensures value { result ≡ self.now.window }
+        ensures least { 1 ≤ result }
+        ensures most { result ≤ 64 }
+    {
+        self.window
     }
 
     // NameTaken where an operator, an input or an output has this name.
@@ -343,7 +368,7 @@ impl Graph {
         Ok(())
     }
 
-    /// Sets the depth of the tree, from 1 to 6.
+    /// Sets the depth of the tree, from 1 to 6. Each switch then has one upward link.
     ///
     /// `LeafRange` where a pin isn't below 2^depth.
     pub fn set_pages(&mut self, depth: u8) -> Result<(), GraphFault>
@@ -353,7 +378,28 @@ impl Graph {
     {
         refuse(self.operators.some_outside(depth), GraphFault::LeafRange)?;
         self.depth = depth;
+        self.pattern = Pattern::plain();
         Ok(())
+    }
+
+    /// Says for each level of the tree, from the leaves' up and without the topmost, whether its switches have two upward links.
+    ///
+    /// `LevelCount` where it isn't said for just these levels.
+    pub fn set_levels(&mut self, two: &[bool]) -> Result<(), GraphFault>
+        ensures { Edits result (patterned two.now self.old) self.old self.new }
+    {
+        refuse(two.len() + 1 != self.depth as usize, GraphFault::LevelCount)?;
+        self.pattern = looks::pattern_of(two);
+        Ok(())
+    }
+
+    /// Sets how many words each channel holds, from 1 to 64.
+    pub fn set_window(&mut self, window: u8)
+        requires least { 1 ≤ window }
+        requires most { window ≤ 64 }
+        ensures { self.new ≡ windowed window self.old }
+    {
+        self.window = window;
     }
 
     /// Whether each port is in a channel. `OpenPort` exactly where one isn't: the first, operator by operator, each with in-ports

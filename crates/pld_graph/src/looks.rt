@@ -3,12 +3,13 @@
 ghost use Rattle.std.specs.Prelude.{◌≡◌, ◌==◌, ◌≤◌, ◌<◌, ◌^◌, not, ◌&&◌, true, false, IfSome, MatchOption, MatchResult, [], ◌∷◌, ◌++◌, length, filter, slice_get, option_copied};
 ghost use Rattle.std.specs.List.{list_any, find};
 ghost use Rattle.pld_graph.specs.Parts.{same_side as same_side_of, same_end as same_end_of, on_side as on_side_of, is_below as is_below_of, is_lost as is_lost_of, is_of as is_of_operator, stands_at, passes, is_host as is_host_of, is_cut as is_cut_of};
-ghost use Rattle.pld_graph.specs.Edits.{is_leaf, is_rival as is_rival_of, is_outside as is_outside_of};
+ghost use Rattle.pld_graph.specs.Edits.{is_leaf, is_rival as is_rival_of, is_outside as is_outside_of, pattern_of as pattern_of_levels};
 ghost use Rattle.pld_graph.specs.Design.{place_from, is_called, is_linked as is_linked_of, open_among, open_of, first_open as first_open_of, inputs as inputs_of, outputs as outputs_of, comes_from as comes_from_input, is_input as is_input_of};
 
 use crate::channels::Channels;
 use crate::operators::Operators;
 use crate::{Cut, FromEnd, OperatorEntry, ToEnd};
+use net_switch::Pattern;
 use pld_base::{End, Name, NoMemory, PortNo, Side};
 
 pub fn same_side(a: Side, b: Side) -> bool
@@ -157,4 +158,14 @@ pub fn leaf_within(depth: u8, leaf: u16) -> Option<u8>
     } else {
         None
     }
+}
+
+// The pattern of a tree whose levels from 1 up have two upward links for each switch where it is said so.
+pub fn pattern_of(levels: &[bool]) -> Pattern
+    requires { length levels.now ≤ 5 }
+    ensures { result ≡ pattern_of_levels levels.now }
+{
+    let mut two = [false; 7];
+    two[1..levels.len() + 1].copy_from_slice(levels);
+    Pattern { two }
 }

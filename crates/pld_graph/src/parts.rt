@@ -75,4 +75,6 @@ pub enum GraphFault {
     NotLinked,
     /// 63 operators, 256 channels, 8 inputs or 8 outputs stand already.
     TooMany,
+    /// A pattern of links that isn't for as many levels as the tree has below its topmost.
+    LevelCount,
 }

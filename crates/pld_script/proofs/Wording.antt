@@ -87,9 +87,9 @@ pub kind_word : (line first : List ℕ) (words : List (List ℕ)) (opens : Bool)
 kind_word line first words opens h e w is =
     sym (ap kind_of_words w ∙ ap (λ c. cond c Skipped (cond (opens_text first) Opens Single)) (no_comment line first words h e w) ∙ ap (λ c. cond c Opens Single) is)
 
--- ---- the numbers of a line
+-- ---- the numbers of a line, and the levels of a word
 
--- these numbers stand ahead of those, where there are any
-abbrev pub ahead_of : List ℕ → Option (List ℕ) → Option (List ℕ)
+-- these stand ahead of those, where there are any
+abbrev pub ahead_of : {X : Type 0} → List X → Option (List X) → Option (List X)
 ahead_of before None = None
-ahead_of before (Some numbers) = Some (before ++ numbers)
+ahead_of before (Some rest) = Some (before ++ rest)

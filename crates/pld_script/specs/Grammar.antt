@@ -1,5 +1,5 @@
 -- What the words of a line say.
-use Rattle.std.specs.Prelude.{ℕ, ◌-◌, Bool, false, ◌==◌, ◌&&◌, ◌||◌, nat_le, if◌then◌else◌, List, [], ◌∷◌, length, take, drop, Option, Some, None, codes}
+use Rattle.std.specs.Prelude.{ℕ, ◌-◌, Bool, true, false, ◌==◌, ◌&&◌, ◌||◌, nat_le, if◌then◌else◌, List, [], ◌∷◌, length, take, drop, Option, Some, None, codes}
 use Rattle.std.specs.List.{list_any}
 use Rattle.std.specs.Option.{option_map}
 use Rattle.std.specs.Str.{bytes_eq}
@@ -13,14 +13,14 @@ use Rattle.pld_base.specs.declared.event.Side.TheVariants.{In, Out}
 use Rattle.pld_graph.specs.declared.parts.Cut.{Cut}
 use Rattle.pld_graph.specs.declared.parts.Cut.TheVariants.{Port, Host}
 use Rattle.pld_script.specs.Words.{words_of, are_only}
-use Rattle.pld_script.specs.Numbers.{word_in, short_number_in, depth_in}
+use Rattle.pld_script.specs.Numbers.{word_in, short_number_in, depth_in, window_of}
 use Rattle.pld_script.specs.declared.line.LineKind.{LineKind}
 use Rattle.pld_script.specs.declared.line.LineKind.TheVariants.{Skipped, Opens, Single}
 use Rattle.pld_script.specs.declared.statement.Statement.{Statement}
 use Rattle.pld_script.specs.declared.statement.Statement.TheVariants as says
-use Rattle.pld_script.specs.declared.statement.Statement.TheVariants.{Build, Run, DumpImage, Quit}
+use Rattle.pld_script.specs.declared.statement.Statement.TheVariants.{Build, Run, DumpImage, DumpTables, Stats, Quit}
 use Rattle.pld_script.specs.declared.statement.Edit.{Edit}
-use Rattle.pld_script.specs.declared.statement.Edit.TheVariants.{Op, Replace, Remove, Connect, Disconnect, Input, Output, Pin, Unpin, Pages, Feed, Clear}
+use Rattle.pld_script.specs.declared.statement.Edit.TheVariants.{Op, Replace, Remove, Connect, Disconnect, Input, Output, Pin, Unpin, Pages, Levels, Window, Feed, Clear}
 
 -- a comment's first word, which begins with `#`
 abbrev pub starts_comment : List ℕ → Bool
@@ -87,6 +87,14 @@ page_count_of (Some n) = depth_in n
 abbrev pub page_count_in : List ℕ → Option ℕ
 page_count_in word = page_count_of (short_number_in word)
 
+-- the window of a channel: 1 to 64 words
+abbrev pub window_size_of : Option ℕ → Option ℕ
+window_size_of None = None
+window_size_of (Some n) = window_of n
+
+abbrev pub window_size_in : List ℕ → Option ℕ
+window_size_in word = window_size_of (short_number_in word)
+
 -- a dot stands in the word
 abbrev pub has_dot : List ℕ → Bool
 has_dot word = list_any (λ b. b == 46) word
@@ -110,6 +118,19 @@ abbrev pub of_both : {A B C : Type 0} → (A → B → C) → Option A → Optio
 of_both make (Some a) (Some b) = Some (make a b)
 of_both make (Some a) None = None
 of_both make None b = None
+
+-- whether there are two upward links: `t` for one, `p` for two
+abbrev pub links_in : ℕ → Option Bool
+links_in b = if b == 116 then Some false else if b == 112 then Some true else None
+
+-- the upward links of each level by its letter, from the leaves' level up
+abbrev pub letters_in : List ℕ → Option (List Bool)
+letters_in [] = Some []
+letters_in (b ∷ letters) = of_both (λ two levels. two ∷ levels) (links_in b) (letters_in letters)
+
+-- one to five letters, each of them a level's
+abbrev pub levels_in : List ℕ → Option (List Bool)
+levels_in word = if nat_le 1 (length word) && nat_le (length word) 5 then letters_in word else None
 
 -- a name, and nothing else
 abbrev pub only_name_in : List (List ℕ) → Option (List ℕ)
@@ -154,6 +175,16 @@ abbrev pub pages_in : List (List ℕ) → Option Edit
 pages_in (count ∷ []) = option_map Pages (page_count_in count)
 pages_in words = None
 
+-- the words behind `pattern`: LETTERS
+abbrev pub pattern_in : List (List ℕ) → Option Edit
+pattern_in (letters ∷ []) = option_map Levels (levels_in letters)
+pattern_in words = None
+
+-- the words behind `window`: NUMBER
+abbrev pub window_in : List (List ℕ) → Option Edit
+window_in (size ∷ []) = option_map Window (window_size_in size)
+window_in words = None
+
 -- a number in front of others, where each is one
 abbrev pub with_number : Option ℕ → Option (List ℕ) → Option (List ℕ)
 with_number (Some n) (Some numbers) = Some (n ∷ numbers)
@@ -179,10 +210,13 @@ abbrev pub alone : Statement → List (List ℕ) → Option Statement
 alone statement [] = Some statement
 alone statement (word ∷ words) = None
 
--- the words behind `dump`: `image` NAME
+-- the words behind `dump`: `image` NAME, or `tables`
 abbrev pub dump_in : List (List ℕ) → Option Statement
 dump_in [] = None
-dump_in (what ∷ words) = if bytes_eq what (codes "image") then option_map DumpImage (only_name_in words) else None
+dump_in (what ∷ words) =
+    if bytes_eq what (codes "image") then option_map DumpImage (only_name_in words)
+    else if bytes_eq what (codes "tables") then alone DumpTables words
+    else None
 
 -- orders to the host, by their first word and those behind it
 abbrev pub order_in : List ℕ → List (List ℕ) → Option Statement
@@ -190,6 +224,7 @@ order_in first words =
     if bytes_eq first (codes "build") then alone Build words
     else if bytes_eq first (codes "run") then alone Run words
     else if bytes_eq first (codes "dump") then dump_in words
+    else if bytes_eq first (codes "stats") then alone Stats words
     else if bytes_eq first (codes "quit") then alone Quit words
     else None
 
@@ -204,6 +239,8 @@ edit_in first words =
     else if bytes_eq first (codes "pin") then pin_in words
     else if bytes_eq first (codes "unpin") then unpin_in words
     else if bytes_eq first (codes "pages") then pages_in words
+    else if bytes_eq first (codes "pattern") then pattern_in words
+    else if bytes_eq first (codes "window") then window_in words
     else if bytes_eq first (codes "clear") then clear_in words
     else None
 

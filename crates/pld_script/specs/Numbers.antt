@@ -47,6 +47,10 @@ short_number_in word = if nat_le (length word) 3 then number_in 10 word else Non
 abbrev pub depth_in : ℕ → Option ℕ
 depth_in n = if nat_le 1 n && nat_le n 6 then Some n else None
 
+-- the window of a channel: 1 to 64 words
+abbrev pub window_of : ℕ → Option ℕ
+window_of n = if nat_le 1 n && nat_le n 64 then Some n else None
+
 -- one to eight hexadecimal digits, whose value is below 2^32
 abbrev pub hexadecimal_in : List ℕ → Option ℕ
 hexadecimal_in digits = if nat_le (length digits) 8 then unsigned_of (number_in 16 digits) else None

@@ -4,11 +4,11 @@ ghost use Rattle.std.specs.Prelude.{◌≡◌, ◌+◌, IfOk, MatchOption, None,
 ghost use Rattle.std.specs.Option.{option_map};
 ghost use Rattle.pld_script.specs.declared.statement.Statement.TheVariants as says;
 ghost use Rattle.pld_script.specs.Words.{words_of};
-ghost use Rattle.pld_script.specs.Grammar.{page_kind_in, side_in, port_number_in, port_of as port_at, port_in, page_count_in, has_dot as holds_dot, cut_in, only_in, two_in, only_name_in, connect_in, disconnect_in, input_in, output_in, pin_in, pages_in, numbers_in, feed_in, alone as alone_in, clear_in, remove_in, unpin_in, dump_in, order_in, edit_in, said_in, statement_in, op_in, replace_in, edit_with, line_statement, text_statement};
+ghost use Rattle.pld_script.specs.Grammar.{page_kind_in, side_in, port_number_in, port_of as port_at, port_in, page_count_in, window_size_in, has_dot as holds_dot, cut_in, only_in, two_in, only_name_in, connect_in, disconnect_in, input_in, output_in, pin_in, pages_in, pattern_in, window_in, numbers_in, feed_in, alone as alone_in, clear_in, remove_in, unpin_in, dump_in, order_in, edit_in, said_in, statement_in, op_in, replace_in, edit_with, line_statement, text_statement};
 
 use super::line::split_word;
 use super::number::{short_number_of, word_of};
-use super::{Depth, Edit, Statement, Text, WordList};
+use super::{Depth, Edit, Levels, Statement, Text, Window, WordList};
 use pld_base::{End, Kind, Name, NoMemory, PortNo, Side};
 use pld_graph::Cut;
 use std::alloc::Global;
@@ -71,6 +71,13 @@ fn page_count_of(word: &[u8]) -> Option<Depth>
     ensures { result ≡ page_count_in word.now }
 {
     Depth::of(short_number_of(word)?)
+}
+
+/// The window of a channel, from 1 to 64 words.
+fn window_size_of(word: &[u8]) -> Option<Window>
+    ensures { result ≡ window_size_in word.now }
+{
+    Window::of(short_number_of(word)?)
 }
 
 fn has_dot(word: &[u8]) -> bool
@@ -172,6 +179,18 @@ fn pages_of(line: &[u8]) -> Option<Edit>
     Some(Edit::Pages(page_count_of(only_word(line)?)?))
 }
 
+fn pattern_of(line: &[u8]) -> Option<Edit>
+    ensures { result ≡ pattern_in (words_of line.now) }
+{
+    Some(Edit::Levels(Levels::of(only_word(line)?)?))
+}
+
+fn window_of(line: &[u8]) -> Option<Edit>
+    ensures { result ≡ window_in (words_of line.now) }
+{
+    Some(Edit::Window(window_size_of(only_word(line)?)?))
+}
+
 /// The values of the words of the line. None where one is no number.
 fn numbers_of(alloc: Global, line: &[u8]) -> Result<Option<WordList>, NoMemory>
     ensures { IfOk result (λ numbers. numbers ≡ numbers_in (words_of line.now)) }
@@ -225,6 +244,8 @@ fn dump_of(line: &[u8]) -> Option<Statement>
     let (what, rest) = split_word(line)?;
     if what == b"image".as_slice() {
         Some(Statement::DumpImage(only_name(rest)?))
+    } else if what == b"tables".as_slice() {
+        alone(Statement::DumpTables, rest)
     } else {
         None
     }
@@ -240,6 +261,8 @@ fn order_of(first: &[u8], rest: &[u8]) -> Option<Statement>
         alone(Statement::Run, rest)
     } else if first == b"dump".as_slice() {
         dump_of(rest)
+    } else if first == b"stats".as_slice() {
+        alone(Statement::Stats, rest)
     } else if first == b"quit".as_slice() {
         alone(Statement::Quit, rest)
     } else {
@@ -267,6 +290,10 @@ fn edit_of(first: &[u8], rest: &[u8]) -> Option<Edit>
         unpin_of(rest)
     } else if first == b"pages".as_slice() {
         pages_of(rest)
+    } else if first == b"pattern".as_slice() {
+        pattern_of(rest)
+    } else if first == b"window".as_slice() {
+        window_of(rest)
     } else if first == b"clear".as_slice() {
         clear_of(rest)
     } else {

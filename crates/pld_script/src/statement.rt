@@ -3,7 +3,7 @@
 ghost use Rattle.std.specs.Prelude.{◌≡◌};
 ghost use Rattle.pld_script.specs.Edits.{is_of_words as is_of_words_of};
 
-use super::{Depth, Text, WordList};
+use super::{Depth, Levels, Text, Window, WordList};
 use pld_base::{End, Kind, Name};
 use pld_graph::Cut;
 
@@ -31,6 +31,11 @@ pub enum Edit {
     Unpin(Name),
     /// `pages NUMBER`: the depth of the tree: it has two to the power of that many leaves.
     Pages(Depth),
+    /// `pattern LETTERS`: how many upward links the switches of each level of the tree have, from the leaves' level up: `t` for one,
+    /// `p` for two. There are one to five letters; whether the tree has as many levels below its topmost isn't asked here.
+    Levels(Levels),
+    /// `window NUMBER`: how many words each channel holds.
+    Window(Window),
     /// `feed NAME { WORD }`: words for an input. There may be none.
     Feed(Name, WordList),
     /// `clear NAME`: the words that were fed to this input go.
@@ -61,6 +66,10 @@ pub enum Statement {
     Run,
     /// `dump image NAME`: the image of the operator of this name.
     DumpImage(Name),
+    /// `dump tables`
+    DumpTables,
+    /// `stats`
+    Stats,
     /// `quit`: the session ends here, and nothing behind it is looked at.
     Quit,
 }

@@ -2,7 +2,7 @@
 
 use pld_base::{End, Kind, Name, NoMemory, Side};
 use pld_graph::Cut;
-use pld_script::{Edit, Next, Statement, next_statement};
+use pld_script::{Edit, Levels, Next, Statement, next_statement};
 use std::alloc::Global;
 use std::test::Fail;
 
@@ -38,6 +38,33 @@ fn put_kind(out: &mut Vec<u8>, kind: Kind) -> Result<(), NoMemory> {
 fn put_number(out: &mut Vec<u8>, alloc: Global, n: u32) -> Result<(), NoMemory> {
     let digits = format!(in alloc; "{n}")?;
     put_word(out, digits.as_bytes())
+}
+
+fn put_levels(out: &mut Vec<u8>, levels: &Levels) -> Result<(), NoMemory> {
+    out.push(b' ')?;
+    for two in levels.as_slice() {
+        out.push(if *two { b'p' } else { b't' })?;
+    }
+    Ok(())
+}
+
+/// What the edit does to the tree and to the window of the channels, in words.
+fn put_tree(out: &mut Vec<u8>, alloc: Global, edit: &Edit) -> Result<(), NoMemory> {
+    match edit {
+        Edit::Pages(count) => {
+            put_word(out, b"pages")?;
+            put_number(out, alloc, u32::from(count.levels()))
+        }
+        Edit::Levels(levels) => {
+            put_word(out, b"pattern")?;
+            put_levels(out, levels)
+        }
+        Edit::Window(window) => {
+            put_word(out, b"window")?;
+            put_number(out, alloc, u32::from(window.words()))
+        }
+        _ => Ok(()),
+    }
 }
 
 /// What the edit does to channels and pins, in words.
@@ -79,11 +106,7 @@ fn put_change(out: &mut Vec<u8>, alloc: Global, edit: &Edit) -> Result<(), NoMem
             put_word(out, b"unpin")?;
             put_name(out, name)
         }
-        Edit::Pages(count) => {
-            put_word(out, b"pages")?;
-            put_number(out, alloc, u32::from(count.levels()))
-        }
-        _ => Ok(()),
+        tree => put_tree(out, alloc, tree),
     }
 }
 
@@ -128,6 +151,8 @@ fn put_statement(out: &mut Vec<u8>, alloc: Global, statement: &Statement) -> Res
             put_word(out, b"dump image")?;
             put_name(out, name)
         }
+        Statement::DumpTables => put_word(out, b"dump tables"),
+        Statement::Stats => put_word(out, b"stats"),
         Statement::Quit => put_word(out, b"quit"),
     }
 }
@@ -146,7 +171,7 @@ fn said(alloc: Global, text: &[u8]) -> Result<Vec<u8>, NoMemory> {
 
 #[test]
 fn reads_edits(rt: HostRuntime) -> Result<(), Fail> {
-    let rows: [(&[u8], &[u8]); 23] = [
+    let rows: [(&[u8], &[u8]); 31] = [
         (b"remove inc", b" remove inc"),
         (b"\tremove  end ", b" remove end"),
         (
@@ -172,6 +197,14 @@ fn reads_edits(rt: HostRuntime) -> Result<(), Fail> {
         (b"pages 6", b" pages 6"),
         (b"pages 006", b" pages 6"),
         (b"pages 02 ", b" pages 2"),
+        (b"pattern t", b" pattern t"),
+        (b"pattern p", b" pattern p"),
+        (b"\tpattern  tptpp ", b" pattern tptpp"),
+        (b"pattern ppppp", b" pattern ppppp"),
+        (b"window 1", b" window 1"),
+        (b"window 64", b" window 64"),
+        (b"window 064", b" window 64"),
+        (b"window 007 ", b" window 7"),
         (b"# x\n\npages 3\npages 4", b" pages 3"),
     ];
     for (text, want) in rows {
@@ -183,7 +216,7 @@ fn reads_edits(rt: HostRuntime) -> Result<(), Fail> {
 
 #[test]
 fn reads_other_statements(rt: HostRuntime) -> Result<(), Fail> {
-    let rows: [(&[u8], &[u8]); 16] = [
+    let rows: [(&[u8], &[u8]); 19] = [
         (b"op inc soft\nend", b" op inc soft "),
         (b"op inc hard\nx\nend", b" op inc hard x\n"),
         (b"op if soft\nend", b" op if soft "),
@@ -204,6 +237,9 @@ fn reads_other_statements(rt: HostRuntime) -> Result<(), Fail> {
         (b" run ", b" run"),
         (b"dump image inc", b" dump image inc"),
         (b"dump\timage  image", b" dump image image"),
+        (b"dump tables", b" dump tables"),
+        (b"dump  tables ", b" dump tables"),
+        (b"stats", b" stats"),
         (b"quit", b" quit"),
         (b"# quit", b" end"),
     ];
@@ -216,7 +252,7 @@ fn reads_other_statements(rt: HostRuntime) -> Result<(), Fail> {
 
 #[test]
 fn refuses_edits(rt: HostRuntime) -> Result<(), Fail> {
-    let rows: [&[u8]; 48] = [
+    let rows: [&[u8]; 64] = [
         b"remove",
         b"remove a b",
         b"remove a.i0",
@@ -265,6 +301,22 @@ fn refuses_edits(rt: HostRuntime) -> Result<(), Fail> {
         b"pages 999",
         b"pages 1 2",
         b"pages a",
+        b"pattern",
+        b"pattern tptptp",
+        b"pattern x",
+        b"pattern tpx",
+        b"pattern T",
+        b"pattern t p",
+        b"pattern 1",
+        b"window",
+        b"window 0",
+        b"window 000",
+        b"window 65",
+        b"window 640",
+        b"window 0064",
+        b"window -1",
+        b"window 0x1",
+        b"window 1 2",
     ];
     for text in rows {
         let words = said(rt.alloc(), text)?;
@@ -275,7 +327,7 @@ fn refuses_edits(rt: HostRuntime) -> Result<(), Fail> {
 
 #[test]
 fn refuses_other_statements(rt: HostRuntime) -> Result<(), Fail> {
-    let rows: [&[u8]; 30] = [
+    let rows: [&[u8]; 33] = [
         b"op a firm\nend",
         b"op a Soft\nend",
         b"op a\nend",
@@ -298,13 +350,16 @@ fn refuses_other_statements(rt: HostRuntime) -> Result<(), Fail> {
         b"run 5",
         b"quit now",
         b"dump",
-        b"dump tables",
+        b"dump tables x",
+        b"dump Tables",
         b"dump image",
         b"dump image a b",
         b"dump image a.i0",
         b"dump Image a",
         b"dump a",
-        b"stats",
+        b"dump stats",
+        b"stats x",
+        b"stats tables",
         b"end",
     ];
     for text in rows {

@@ -1,7 +1,5 @@
 use Rattle.std.proofs.Common.{◌≡◌, ◌<◌, ◌&&◌, not, length, Some, sym, ap, ◌∙◌, subst}
 use Rattle.std.specs.List.{list_any}
-use Rattle.pld_graph.specs.Parts.{passes}
-use Rattle.std.specs.Prelude.{◌==◌}
 use Rattle.pld_graph.specs.Design.{Design, operator_at, place_of}
 use Rattle.pld_graph.specs.Edits.{is_rival}
 use Rattle.pld_graph.specs.Sound.{is_pinned}
@@ -10,7 +8,7 @@ use Rattle.pld_graph.proofs.graph.Graph.has_rival.Goals as goal
 
 pub returns : goal.returns
 returns c =
-    let d : Design = record { operators = c.self.inside.operators; channels = c.self.inside.channels; depth = c.self.inside.depth } in
+    let d : Design = record { operators = c.self.inside.operators; channels = c.self.inside.channels; depth = c.self.inside.depth; pattern = c.self.inside.pattern; window = c.self.inside.window } in
     let leaf = c.args.leaf in
     let within = subst (λ (x : Design). c.args.k < length x.operators) (sym c.self.view_is) c.requires.within in
     let place = subst (λ (x : Design). Some c.args.k ≡ place_of c.args.name.now x) (sym c.self.view_is) c.requires.place in

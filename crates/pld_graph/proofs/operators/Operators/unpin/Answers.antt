@@ -1,4 +1,4 @@
-use Rattle.std.proofs.Common.{◌≡◌, ℕ, ◌==◌, ◌<◌, Some, None, cond, length, refl, sym, ap, subst, ◌∙◌, slice_set}
+use Rattle.std.proofs.Common.{ℕ, ◌==◌, ◌<◌, None, cond, length, refl, sym, ap, subst, ◌∙◌, slice_set}
 use Rattle.std.specs.Int.{bit_at}
 use Rattle.pld_graph.specs.Parts.{passes}
 use Rattle.pld_graph.specs.Design.{operator_at}
