@@ -139,7 +139,7 @@ impl Plan {
     }
 
     /// How many leaves its tree has.
-    pub(crate) fn leaves(&self) -> usize
+    pub fn leaves(&self) -> usize
         ensures value { result ≡ size_of self.now }
         ensures most { result ≤ 64 }
     {

@@ -10,7 +10,7 @@ use Rattle.pld_graph.specs.declared.parts.ToEnd.{ToEnd}
 use Rattle.pld_graph.specs.declared.parts.ToEnd.TheVariants as to_end
 use Rattle.pld_graph.specs.Design.{Design, inputs, outputs}
 use Rattle.pld_link.specs.Seats.{place_in, operator_names}
-use Rattle.design_plan.specs.Wiring.{producer, goes_to, wiring}
+use Rattle.fabric_plan.specs.Wiring.{producer, goes_to, wiring}
 use Rattle.fabric_plan.proofs.Found.{as_many}
 use Rattle.fabric_ends.specs.Planned.{SameDesign}
 use Rattle.fabric_plan.specs.Plans.{Given, plan_of}
@@ -44,7 +44,7 @@ module _ (d e : Design) (channels : d.channels ≡ e.channels) (names : operator
   same_wiring : wiring d ≡ wiring e
   same_wiring = λ i node port. same_at node port i
 
-  pub plans_alike : (given given' : Given) → given.window ≡ given'.window → given.feeds ≡ given'.feeds → IsRunnable d given → IsRunnable e given' → SameDesign (plan_of d given) (plan_of e given')
+  pub plans_alike : (given given' : Given) → d.window ≡ e.window → given.feeds ≡ given'.feeds → IsRunnable d given → IsRunnable e given' → SameDesign (plan_of d given) (plan_of e given')
   plans_alike given given' window feeds run run' = record {
     window = window;
     pages = all_pages d given run ∙ as_many d e names ∙ sym (all_pages e given' run');

@@ -17,7 +17,7 @@ use Rattle.pld_graph.specs.Design.{Design, outputs}
 use Rattle.pld_link.specs.Seats.{seat, same_seat, from_seat, to_seat, leaf_of, place_in, operator_names}
 use Rattle.pld_link.specs.Rows.{row}
 use Rattle.pld_link.proofs.Ends.{IsIn, leaf_there, leaf_some}
-use Rattle.design_plan.specs.Wiring.{producer, goes_to, wiring, design_network}
+use Rattle.fabric_plan.specs.Wiring.{producer, goes_to, wiring, design_network}
 use Rattle.fabric_plan.proofs.Found.{given, find_agree, and_all, to_stands, from_stands, input_test, past_test, row_given, found_none}
 use Rattle.fabric_keeps.proofs.Base.{eq_same, same_eq, differ, lt_true}
 use Rattle.fabric_run.specs.Plan.{PlanValue, number_of, writer, from_row, wiring_of, in_row}

@@ -1,5 +1,5 @@
--- The channel that a search finds, and what it gives. `design_plan` has the same lemmas for itself, until it goes.
-use Rattle.std.proofs.Common.{◌≡◌, ℕ, suc, zero, ◌+◌, ◌*◌, ◌/◌, ◌≤◌, Bool, true, false, ◌&&◌, cond, inl, inr, List, [], ◌∷◌, length, refl, sym, ap, ◌∙◌, arith, Option, Some, None}
+-- The channel that a search finds, and what it gives.
+use Rattle.std.proofs.Common.{◌≡◌, ℕ, suc, ◌+◌, ◌*◌, ◌/◌, ◌≤◌, Bool, true, false, ◌&&◌, cond, inl, inr, List, [], ◌∷◌, length, refl, sym, ap, ◌∙◌, arith, Option, Some, None}
 use Rattle.std.specs.Prelude.{◌==◌, option_map}
 use Rattle.std.specs.List.{find}
 use Rattle.std.proofs.lemmas.Bool.Decides.{nat_tests}
@@ -7,7 +7,7 @@ use Rattle.std.proofs.lemmas.List.{length-map}
 use Rattle.std.proofs.lemmas.Nat.{le-div}
 use Rattle.net_switch.specs.declared.packet.Row.{Row}
 use Rattle.pld_base.specs.declared.event.End.{End}
-use Rattle.pld_base.specs.Channels.{Node, InputNode, OutputNode, OutPort}
+use Rattle.pld_base.specs.Channels.{InputNode, OutputNode, OutPort}
 use Rattle.pld_graph.specs.declared.parts.Channel.{Channel}
 use Rattle.pld_graph.specs.declared.parts.OperatorEntry.{OperatorEntry}
 use Rattle.pld_graph.specs.declared.parts.FromEnd.{FromEnd}
@@ -18,8 +18,8 @@ use Rattle.pld_graph.specs.Parts.{same_end, stands_at, passes, from_port, to_por
 use Rattle.pld_graph.specs.Design.{Design, outputs}
 use Rattle.pld_link.specs.Seats.{place_in, operator_names}
 use Rattle.pld_link.proofs.Ends.{IsIn, own_end, or_left, or_right}
-use Rattle.design_plan.specs.Plans.{allowed}
-use Rattle.design_plan.specs.Wiring.{goes_to}
+use Rattle.fabric_plan.specs.Plans.{allowed}
+use Rattle.fabric_plan.specs.Wiring.{goes_to}
 
 -- what a function gives of a value, if there is one
 abbrev pub given : {X Y : Type 0} → (X → Option Y) → Option X → Option Y

@@ -5,3 +5,5 @@ pub mod Tables
 pub mod Planned
 pub mod Fed
 pub mod Alike
+pub mod Making
+pub mod Left

@@ -158,7 +158,7 @@ module _ (d : Design) (given : Given) (run : IsRunnable d given) where
       let ins = run.sound.inputs in
       record {
         depth = (run.sound.least, run.sound.most);
-        window = run.window;
+        window = run.sound.window;
         many = (omega (arith, all_pages, some), omega (arith, all_pages, few));
         images = λ k p e. form_at k p.image (page k p e).image;
         leaves = page_leaf;
@@ -174,7 +174,7 @@ module _ (d : Design) (given : Given) (run : IsRunnable d given) where
         host_gets = gets;
         host_in = λ port r e. host_in d leaves run.sound placed port r (sym (in_row_is 0 port) ∙ e);
         inside = λ leaf slot r e. leaf_page leaf (some_row d leaves run.sound placed (suc leaf) slot r e);
-        before = run.before;
+        before = run.before.within;
         hosts = (omega (arith, many, ins), run.sound.outputs);
         short = λ k. feed_at (λ feed. length feed ≤ 65536) given.feeds k (omega arith) run.fed.short;
         words = λ k. feed_at (All IsWord) given.feeds k (All-nil IsWord) run.fed.words;

@@ -15,7 +15,7 @@ use Rattle.pld_link.proofs.Linked.{out_leaf, in_leaf, out_ports, in_ports}
 use Rattle.fabric_plan.proofs.Found.{none_of}
 use Rattle.fabric_run.specs.Plan.{row_in}
 
-chosen : (b c : Bool) (x y : Option Row) → b ≡ c → (if b then x else y) ≡ (if c then x else y)
+pub chosen : (b c : Bool) (x y : Option Row) → b ≡ c → (if b then x else y) ≡ (if c then x else y)
 chosen b c x y e = ap (λ t. if t then x else y) e
 
 module _ (d : Design) (leaves : List ℕ) (sound : IsSound d) (placed : IsPlacement d leaves) where

@@ -1,2 +1,4 @@
+pub mod Wiring
 pub mod Plans
+pub mod Standing
 pub mod Runnable

@@ -11,8 +11,8 @@ use Rattle.image_form.specs.Spelling.{Form, IsForm}
 use Rattle.pld_image.specs.Cores.{load, next}
 use Rattle.pld_image.specs.Ports.{ins_of, outs_of}
 use Rattle.pld_link.specs.Seats.{IsPlacement}
-use Rattle.fabric_run.specs.Plan.{row_in}
 use Rattle.fabric_plan.specs.Plans.{Given}
+use Rattle.fabric_plan.specs.Standing.{AreStanding}
 
 -- each operator has a leaf of its own in the design's tree
 pub record ArePlaced (d : Design) (leaves : List ℕ) : Type 0 where
@@ -47,7 +47,5 @@ pub record IsRunnable (d : Design) (given : Given) : Type 0 where
   pub placed : ArePlaced d given.leaves
   pub images : HaveImages d given.images
   pub fed : AreFed d given.feeds
-  pub window : (1 ≤ given.window) × (given.window ≤ 64)
-  -- rows stand at leaves of the tree alone
-  pub before : (leaf slot : ℕ) → 2 ^ d.depth ≤ leaf → row_in given.before leaf slot ≡ None
+  pub before : AreStanding d.depth given.before
   pub a_round : 1 ≤ given.rounds

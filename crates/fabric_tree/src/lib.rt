@@ -1,7 +1,7 @@
 //! Runs over the tree of switches: what holds of every run, with nothing left to ask of what carries packets.
 #![tactic(auto)]
 
-ghost use Rattle.std.specs.Prelude.{◌≡◌, ℕ, ◌/◌, ◌^◌, ◌<◌, ◌≤◌, List, length, Some, slice_get, true};
+ghost use Rattle.std.specs.Prelude.{◌≡◌, ℕ, ◌/◌, ◌^◌, ◌<◌, ◌≤◌, List, length, Some, IsSome, slice_get, true};
 ghost use Rattle.net_switch.specs.declared.packet.Pattern.{Pattern};
 ghost use Rattle.net_tree.specs.Links.{Links, sum_to};
 ghost use Rattle.net_tree.specs.Runs as tree;
@@ -13,7 +13,7 @@ ghost use Rattle.fabric_run.specs.declared.entry.Entry.TheVariants.{Net};
 ghost use Rattle.fabric_run.specs.declared.row.Outcome.TheVariants.{Spent};
 ghost use Rattle.fabric_run.specs.Plan.{PagePlan, PlanValue, IsSound, start_of};
 ghost use Rattle.fabric_run.specs.World.{changes, offers_of, ready};
-ghost use Rattle.fabric_run.specs.Replay.{after, may, replay, IsLegal, outcome};
+ghost use Rattle.fabric_run.specs.Replay.{after, may, replay, IsLegal, IsPlain, outcome};
 ghost use Rattle.fabric_keeps.specs.Measure.{enough};
 ghost use Rattle.fabric_keeps.specs.Facts.{RunsWell};
 ghost use Rattle.hot_swap.specs.Paths.{RestsAfter};
@@ -64,4 +64,11 @@ pub fn designs_over_the_tree()
         → IsLegal (tree_setup plan) journal → IsLegal (tree_setup other) journal'
         → IsRested (tree_setup plan) (replay (tree_setup plan) journal) → IsRested (tree_setup other) (replay (tree_setup other) journal')
         → ShowSame (shown (tree_setup plan) (replay (tree_setup plan) journal)) (shown (tree_setup other) (replay (tree_setup other) journal')) }
+{}
+
+/// A run has one journal of `plain`.
+pub fn plain_runs_over_the_tree_are_one()
+    ensures { (plan : PlanValue) (journal other : List Entry)
+        → IsPlain (tree_setup plan) journal → IsSome (outcome (tree_setup plan) (replay (tree_setup plan) journal))
+        → IsPlain (tree_setup plan) other → IsSome (outcome (tree_setup plan) (replay (tree_setup plan) other)) → journal ≡ other }
 {}

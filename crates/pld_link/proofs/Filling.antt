@@ -141,14 +141,14 @@ filled_none d leaves count all = record {
   at = λ n few. get_or-replicate count n None None (omega (arith, few, all)) ∙ same_ways (nat_lt (n % 16) 8) None;
 }
 
-each_filled : (f : ℕ → Option Row) (n : ℕ) (table : List (Option Row)) → length table ≡ n → ((k : ℕ) → k < n → get_or table k None ≡ f k) → table ≡ each_below n f
+pub each_filled : (f : ℕ → Option Row) (n : ℕ) (table : List (Option Row)) → length table ≡ n → ((k : ℕ) → k < n → get_or table k None ≡ f k) → table ≡ each_below n f
 unfolding each_below
 each_filled f n table all at = fill_by_all f table n None all at
 
 pub filled_all : (d : Design) (leaves : List ℕ) (table : List (Option Row)) → IsFilled d leaves d.channels table → table ≡ rows d leaves
 filled_all d leaves table filled = each_filled (λ n. row_of d leaves (n / 16) (n % 16)) 1024 table filled.all filled.at
 
-each_below_at : (f : ℕ → Option Row) (n k : ℕ) → k < n → get_or (each_below n f) k None ≡ f k
+pub each_below_at : (f : ℕ → Option Row) (n k : ℕ) → k < n → get_or (each_below n f) k None ≡ f k
 unfolding each_below
 each_below_at f n k few = get_or-map-range_with_len f 0 n k k None few (omega arith)
 
@@ -202,7 +202,7 @@ filled_end d leaves k table over filled =
     let none : k ≡ 0 = omega (arith, over) in
     filled_all d leaves table (subst (λ j. IsFilled d leaves (drop j d.channels) table) none filled)
 
-each_below_length : (f : ℕ → Option Row) (n : ℕ) → length (each_below n f) ≡ n
+pub each_below_length : (f : ℕ → Option Row) (n : ℕ) → length (each_below n f) ≡ n
 unfolding each_below
 each_below_length f n = length-map-range_with_len f 0 n
 

@@ -1,4 +1,0 @@
-pub mod Leaves
-pub mod Planned
-pub mod Fed
-pub mod Alike

@@ -1,3 +1,0 @@
-pub mod Wiring
-pub mod Plans
-pub mod Runnable
