@@ -7,17 +7,13 @@ use Rattle.std.proofs.lemmas.List.Elements.{All-head, All-tail}
 use Rattle.std.proofs.Math.Nat.{mul-suc}
 use Rattle.pld_base.specs.declared.event.Side.{Side}
 use Rattle.pld_base.specs.declared.event.Side.TheVariants.{In, Out}
-use Rattle.direct_world.specs.declared.row.Outcome.{Outcome}
-use Rattle.direct_world.specs.declared.row.Outcome.TheVariants.{Done, Stalled, Spent}
-use Rattle.direct_world.specs.declared.row.Blocked.{Blocked}
-use Rattle.direct_world.specs.Plan.{PlanValue}
-use Rattle.direct_world.specs.World.{State, out_at}
-use Rattle.direct_world.specs.Replay.{outcome, blocked}
-use Rattle.direct_world.specs.Reply.{outcome_line, port_text, at_line, at_lines, spaced, out_line, lines_below, reply}
+use Rattle.pld_base.specs.Words.{IsWord}
+use Rattle.fabric_run.specs.declared.row.Outcome.{Outcome}
+use Rattle.fabric_run.specs.declared.row.Outcome.TheVariants.{Done, Stalled, Spent}
+use Rattle.fabric_run.specs.declared.row.Blocked.{Blocked}
+use Rattle.fabric_run.specs.Shown.{Shown}
+use Rattle.fabric_run.specs.Reply.{outcome_line, port_text, at_line, at_lines, spaced, out_line, lines_below, reply}
 use Rattle.pld_reply.specs.Sizes.{AreShort, HasOuts, HasBytePorts, run_room}
-
-abbrev IsWord : ℕ → Type 0
-IsWord word = word < 2 ^ 32
 
 long : (n : ℕ) → n < 2 ^ 64 → length (decimal n) ≤ 20
 long n h = length-decimal-le 20 n (omega arith) (omega arith) h
@@ -64,17 +60,17 @@ of_ports names (Some Done) ports n short small = omega arith
 of_ports names (Some Spent) ports n short small = omega arith
 of_ports names (Some Stalled) ports n short small = of_lines (λ k. at_line (names k) (ports k)) 47 n (λ k. of_at (names k) (ports k) (short k) (small k))
 
-pub reply_is_short : (names outputs : ℕ → List ℕ) (plan : PlanValue) (st : State) → AreShort names → AreShort outputs → plan.rounds < 2 ^ 64 → HasOuts plan st → HasBytePorts st → length (reply names outputs plan st) ≤ run_room (length plan.pages) plan.outs plan.rounds
-reply_is_short names outputs plan st short short' small outs ports =
-    let first = outcome_line (outcome plan st) plan.rounds in
-    let at = at_lines names (outcome plan st) (blocked st) (length plan.pages) in
-    let line : ℕ → List ℕ = λ k. out_line (outputs k) (out_at st k) in
-    let words = lines_below line plan.outs in
+pub reply_is_short : (names outputs : ℕ → List ℕ) (operators outs rounds : ℕ) (s : Shown) → AreShort names → AreShort outputs → rounds < 2 ^ 64 → HasOuts rounds s → HasBytePorts s → length (reply names outputs operators outs s) ≤ run_room operators outs rounds
+reply_is_short names outputs operators outs rounds s short short' small has ports =
+    let first = outcome_line s.outcome s.rounds in
+    let at = at_lines names s.outcome s.port operators in
+    let line : ℕ → List ℕ = λ k. out_line (outputs k) (s.words k) in
+    let words = lines_below line outs in
     omega (
       arith,
       length-append first (at ++ words),
       length-append at words,
-      of_outcome (outcome plan st) plan.rounds small,
-      of_ports names (outcome plan st) (blocked st) (length plan.pages) short ports,
-      of_lines line (58 + 11 * plan.rounds) plan.outs (λ k. of_out (outputs k) (out_at st k) plan.rounds (short' k) (outs.few k) small (outs.words k)),
+      of_outcome s.outcome s.rounds (omega (arith, has.made, small)),
+      of_ports names s.outcome s.port operators short ports,
+      of_lines line (58 + 11 * rounds) outs (λ k. of_out (outputs k) (s.words k) rounds (short' k) (has.few k) small (has.words k)),
     )

@@ -10,7 +10,7 @@ use Rattle.pld_base.specs.declared.fault.Limit.TheVariants as limit
 use Rattle.pld_base.specs.declared.fault.SourceFault.{SourceFault}
 use Rattle.pld_graph.specs.declared.parts.GraphFault.{GraphFault}
 use Rattle.pld_graph.specs.declared.parts.GraphFault.TheVariants as graph
-use Rattle.direct_world.specs.Reply.{line_of}
+use Rattle.fabric_run.specs.Reply.{line_of}
 use Rattle.pld_reply.specs.declared.refusals.Refusal.{Refusal}
 use Rattle.pld_reply.specs.declared.refusals.Refusal.TheVariants as refusal
 
@@ -55,6 +55,7 @@ graph_text graph.LeafTaken = codes "LeafTaken"
 graph_text graph.LeafRange = codes "LeafRange"
 graph_text graph.NotLinked = codes "NotLinked"
 graph_text graph.TooMany = codes "TooMany"
+graph_text graph.LevelCount = codes "LevelCount"
 
 abbrev pub side_text : Side → List ℕ
 side_text In = codes ".i"
@@ -78,6 +79,7 @@ refusal_text refusal.Empty = codes "Empty"
 refusal_text (refusal.OpenPort open_port) = codes "OpenPort " ++ end_text open_port.end
 refusal_text (refusal.TooFewPages operators pages) = pages_text operators pages
 refusal_text refusal.NotBuilt = codes "NotBuilt"
+refusal_text refusal.NotRun = codes "NotRun"
 
 -- the statement whose first line has this number is refused
 abbrev pub refused_reply : ℕ → Refusal → List ℕ

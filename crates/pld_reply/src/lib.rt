@@ -8,11 +8,13 @@ mod plain;
 mod put;
 mod refusals;
 mod runs;
+mod tables;
 #[cfg(test)]
 mod tests;
 
 pub use image::put_image;
 pub use laws::{run_replies_are_short, runs_have_outs};
-pub use plain::{put_built, put_ok};
+pub use plain::{put_built, put_ok, put_stats};
 pub use refusals::{Refusal, put_refused};
 pub use runs::put_run;
+pub use tables::{PlacedPage, put_tables};

@@ -28,6 +28,8 @@ pub enum Refusal {
     TooFewPages { operators: u64, pages: u64 },
     /// No build has succeeded since the last edit.
     NotBuilt,
+    /// No run was made yet.
+    NotRun,
 }
 
 /// Writes which limit of the language was passed.
@@ -96,6 +98,7 @@ fn put_graph(reply: &mut Vec<u8>, fault: GraphFault) -> Result<(), NoMemory>
         GraphFault::LeafRange => put_text(reply, b"LeafRange"),
         GraphFault::NotLinked => put_text(reply, b"NotLinked"),
         GraphFault::TooMany => put_text(reply, b"TooMany"),
+        GraphFault::LevelCount => put_text(reply, b"LevelCount"),
     }
 }
 
@@ -138,6 +141,7 @@ fn put_refusal(reply: &mut Vec<u8>, refusal: &Refusal) -> Result<(), NoMemory>
         }
         Refusal::TooFewPages { operators, pages } => put_pages(reply, *operators, *pages),
         Refusal::NotBuilt => put_text(reply, b"NotBuilt"),
+        Refusal::NotRun => put_text(reply, b"NotRun"),
     }
 }
 

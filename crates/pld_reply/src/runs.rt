@@ -1,13 +1,15 @@
 //! The reply to a run.
 
 ghost use Rattle.std.specs.Prelude.{◌≡◌, ◌++◌, OnOk, decimal, codes, length};
-ghost use Rattle.direct_world.specs.Kept.{state_of};
-ghost use Rattle.direct_world.specs.Replay.{outcome, blocked};
-ghost use Rattle.direct_world.specs.World.{out_at};
-ghost use Rattle.direct_world.specs.Reply.{outcome_line, at_line, at_lines, out_line, spaced, lines_below, name_in, reply as run_reply};
+ghost use Rattle.fabric_core.specs.Runs.{setup_for, state_of};
+ghost use Rattle.fabric_run.specs.Replay.{outcome, blocked};
+ghost use Rattle.fabric_run.specs.World.{out_at};
+ghost use Rattle.fabric_run.specs.Shown.{shown};
+ghost use Rattle.fabric_run.specs.Reply.{outcome_line, at_line, at_lines, out_line, spaced, lines_below, name_in, reply as run_reply};
 
 use crate::put::{put_number, put_text};
-use direct_world::{Blocked, Outcome, World};
+use fabric_core::Fabric;
+use fabric_run::{Blocked, Outcome};
 use pld_base::{Name, NoMemory, Side};
 
 /// Writes how a run ended.
@@ -73,49 +75,53 @@ fn put_out(reply: &mut Vec<u8>, name: &Name, words: &[u32]) -> Result<(), NoMemo
 }
 
 /// Writes the ports at which the operators stand, where the run is stalled.
-fn put_ports(reply: &mut Vec<u8>, names: &[Name], world: &World) -> Result<(), NoMemory>
-    ensures { OnOk result (reply.new.items ≡ reply.old.items ++ at_lines (name_in names.now) (outcome world.now.plan (state_of world.now)) (blocked (state_of world.now)) (length names.now)) }
+fn put_ports(reply: &mut Vec<u8>, names: &[Name], fabric: &Fabric) -> Result<(), NoMemory>
+    requires { length names.now ≡ length fabric.now.plan.pages }
+    ensures { OnOk result (reply.new.items ≡ reply.old.items ++ at_lines (name_in names.now) (outcome (setup_for fabric.now) (state_of fabric.now)) (blocked (setup_for fabric.now) (state_of fabric.now)) (length names.now)) }
 {
-    match world.over() {
+    match fabric.over() {
         None => Ok(()),
         Some(Outcome::Done) => Ok(()),
-        Some(Outcome::Stalled) => put_stalled(reply, names, world),
+        Some(Outcome::Stalled) => put_stalled(reply, names, fabric),
         Some(Outcome::Spent) => Ok(()),
     }
 }
 
 /// Writes the ports at which the operators stand.
-fn put_stalled(reply: &mut Vec<u8>, names: &[Name], world: &World) -> Result<(), NoMemory>
-    ensures { OnOk result (reply.new.items ≡ reply.old.items ++ lines_below (λ k. at_line (name_in names.now k) (blocked (state_of world.now) k)) (length names.now)) }
+fn put_stalled(reply: &mut Vec<u8>, names: &[Name], fabric: &Fabric) -> Result<(), NoMemory>
+    requires { length names.now ≡ length fabric.now.plan.pages }
+    ensures { OnOk result (reply.new.items ≡ reply.old.items ++ lines_below (λ k. at_line (name_in names.now k) (blocked (setup_for fabric.now) (state_of fabric.now) k)) (length names.now)) }
 {
     for k in 0..names.len() {
-        put_port(reply, &names[k], world.blocked(k))?;
+        put_port(reply, &names[k], fabric.blocked(k))?;
     }
     Ok(())
 }
 
 /// Writes the words of the outputs.
-fn put_outs(reply: &mut Vec<u8>, outputs: &[Name], world: &World) -> Result<(), NoMemory>
-    ensures { OnOk result (reply.new.items ≡ reply.old.items ++ lines_below (λ k. out_line (name_in outputs.now k) (out_at (state_of world.now) k)) (length outputs.now)) }
+fn put_outs(reply: &mut Vec<u8>, outputs: &[Name], fabric: &Fabric) -> Result<(), NoMemory>
+    requires { length outputs.now ≡ fabric.now.plan.outs }
+    ensures { OnOk result (reply.new.items ≡ reply.old.items ++ lines_below (λ k. out_line (name_in outputs.now k) (out_at (state_of fabric.now) k)) (length outputs.now)) }
 {
     for k in 0..outputs.len() {
-        put_out(reply, &outputs[k], world.out(k))?;
+        put_out(reply, &outputs[k], fabric.out(k))?;
     }
     Ok(())
 }
 
-/// Writes the reply to a run.
+/// Writes the reply to a run, for the names of its operators and of its outputs: `done`, `stalled` or `spent ROUNDS` with the
+/// rounds that were made; where it is stalled, the port at which each operator stands; and the words of each output.
 pub fn put_run(
     reply: &mut Vec<u8>,
     names: &[Name],
     outputs: &[Name],
-    world: &World,
+    fabric: &Fabric,
 ) -> Result<(), NoMemory>
-    requires names { length names.now ≡ length world.now.plan.pages }
-    requires outputs { length outputs.now ≡ world.now.plan.outs }
-    ensures { OnOk result (reply.new.items ≡ reply.old.items ++ run_reply (name_in names.now) (name_in outputs.now) world.now.plan (state_of world.now)) }
+    requires names { length names.now ≡ length fabric.now.plan.pages }
+    requires outputs { length outputs.now ≡ fabric.now.plan.outs }
+    ensures { OnOk result (reply.new.items ≡ reply.old.items ++ run_reply (name_in names.now) (name_in outputs.now) (length fabric.now.plan.pages) fabric.now.plan.outs (shown (setup_for fabric.now) (state_of fabric.now))) }
 {
-    put_outcome(reply, world.plan().rounds(), world.over())?;
-    put_ports(reply, names, world)?;
-    put_outs(reply, outputs, world)
+    put_outcome(reply, fabric.counts().rounds, fabric.over())?;
+    put_ports(reply, names, fabric)?;
+    put_outs(reply, outputs, fabric)
 }

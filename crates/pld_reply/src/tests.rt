@@ -1,7 +1,11 @@
 //! The texts of the replies, written by hand.
 
-use crate::{Refusal, put_built, put_image, put_ok, put_refused};
-use pld_base::{End, FaultKind, Limit, Name, PortNo, Side, SourceFault};
+use crate::{
+    PlacedPage, Refusal, put_built, put_image, put_ok, put_refused, put_stats, put_tables,
+};
+use fabric_core::Counts;
+use net_switch::Row;
+use pld_base::{End, FaultKind, Kind, Limit, Name, PageId, PortNo, Side, SourceFault};
 use pld_graph::{GraphFault, OpenPort};
 use std::alloc::Global;
 use std::test::Fail;
@@ -101,6 +105,7 @@ fn faults_of_designs(rt: HostRuntime) -> Result<(), Fail> {
         (GraphFault::LeafRange, "refused 12 LeafRange\n"),
         (GraphFault::NotLinked, "refused 12 NotLinked\n"),
         (GraphFault::TooMany, "refused 12 TooMany\n"),
+        (GraphFault::LevelCount, "refused 12 LevelCount\n"),
     ] {
         let Some(text) = text_of(alloc, 12, &Refusal::Graph(fault)) else {
             return Err("no memory".into());
@@ -138,6 +143,7 @@ fn other_refusals(rt: HostRuntime) -> Result<(), Fail> {
             "refused 1 TooFewPages 9 7\n",
         ),
         (Refusal::NotBuilt, "refused 1 NotBuilt\n"),
+        (Refusal::NotRun, "refused 1 NotRun\n"),
     ] {
         let Some(text) = text_of(alloc, 1, &refusal) else {
             return Err("no memory".into());
@@ -163,6 +169,58 @@ fn replies_append(rt: HostRuntime) -> Result<(), Fail> {
         reply.as_slice(),
         b"ok\nbuilt 3 compiled 2\nimage inc 2 5a0f\nimage inc 0 \n".as_slice()
     );
+    Ok(())
+}
+
+#[test]
+fn counts_of_a_run(rt: HostRuntime) -> Result<(), Fail> {
+    let counts = Counts {
+        rounds: 120,
+        packets: 3400,
+        deflected: 18446744073709551615,
+        configs: 0,
+    };
+    let mut reply = Vec::new(rt.alloc());
+    assert!(rt; put_stats(&mut reply, counts).is_ok());
+    assert_eq!(rt;
+        reply.as_slice(),
+        b"stats rounds 120 packets 3400 deflected 18446744073709551615 configs 0\n".as_slice()
+    );
+    Ok(())
+}
+
+const TABLES: &str = "page 5 inc soft
+page 63 dec hard
+row 0 o0 5 i1
+row 5 o2 63 i7
+row 5 i1 0 o0
+row 63 i7 5 o2
+";
+
+#[test]
+fn tables_of_two_pages(rt: HostRuntime) -> Result<(), Fail> {
+    let alloc = rt.alloc();
+    let (Some(inc), Some(dec)) = (Name::of(b"inc"), Name::of(b"dec")) else {
+        return Err("no name".into());
+    };
+    let page = |leaf, name, kind| PlacedPage {
+        leaf: PageId(leaf),
+        name,
+        kind,
+    };
+    let row = |leaf, port| Some(Row {
+        leaf: PageId(leaf),
+        port: PortNo(port),
+    });
+    let pages = [page(63, dec, Kind::Hard), page(5, inc, Kind::Soft)];
+    let mut rows = vec![in alloc; None; 1024]?;
+    rows[0] = row(5, 1);
+    rows[82] = row(63, 7);
+    rows[89] = row(0, 0);
+    rows[1023] = row(5, 2);
+    let mut reply = Vec::new(alloc);
+    assert!(rt; put_tables(&mut reply, &pages, &rows).is_ok());
+    assert_eq!(rt; reply.as_slice(), TABLES.as_bytes());
     Ok(())
 }
 

@@ -1,5 +1,5 @@
 use Rattle.std.proofs.Common.{◌≡◌, ◌++◌, take}
-use Rattle.direct_world.specs.Reply.{spaced}
+use Rattle.fabric_run.specs.Reply.{spaced}
 use Rattle.pld_reply.proofs.runs.put_words.Given as goal
 
 abbrev pub invariant-loop-word : goal.invariant-loop-word
