@@ -6,11 +6,13 @@ ghost use Rattle.pld_base.specs.Process.{IsProcess, WritesWords};
 ghost use Rattle.pld_kahn.specs.Realises.{Realises};
 ghost use Rattle.pld_ast.specs.Resolve.{program_of};
 ghost use Rattle.pld_ast.specs.Sound.{IsSound};
+ghost use Rattle.image_form.specs.Spelling.{IsForm};
+ghost use Rattle.pld_image.specs.Ports.{ins_of, outs_of};
 ghost use Rattle.pld_image.specs.Processes.{process_of};
 ghost use Rattle.pld_draft.specs.declared.parts.Source.{Source};
 ghost use Rattle.pld_build.specs.Images.{image_of, meaning_of, distinct};
 
-use fsm_back::tables_keep_the_meaning;
+use fsm_back::{tables_are_in_range, tables_keep_the_meaning};
 use pld_ast::operators_are_processes;
 use pld_draft::Source;
 use rv_back::words_keep_the_meaning;
@@ -23,6 +25,16 @@ pub fn images_keep_the_meaning()
 {
     words_keep_the_meaning();
     tables_keep_the_meaning();
+}
+
+/// The image of a sound operator is one in range, with the operator's counts of ports.
+pub fn images_are_forms()
+    ensures in_range { (s : Source) → IsSound (program_of s.operator) → IsForm (image_of s) }
+    ensures ins { (s : Source) → ins_of (image_of s) ≡ (program_of s.operator).ins }
+    ensures outs { (s : Source) → outs_of (image_of s) ≡ (program_of s.operator).outs }
+{
+    words_keep_the_meaning();
+    tables_are_in_range();
 }
 
 /// What sources mean are processes with blocking reads (Kahn 1974), of sound operators.

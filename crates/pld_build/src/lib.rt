@@ -7,4 +7,4 @@ mod laws;
 mod tests;
 
 pub use images::{Built, build};
-pub use laws::{images_keep_the_meaning, pairs_are_few, sources_are_processes};
+pub use laws::{images_are_forms, images_keep_the_meaning, pairs_are_few, sources_are_processes};

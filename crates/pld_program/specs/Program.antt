@@ -5,7 +5,7 @@ use Rattle.pld_driver.specs.Outcome.{Moment}
 use Rattle.pld_driver.specs.Statuses.{number_of}
 use Rattle.pld_driver.specs.declared.status.Status.{Status}
 use Rattle.pld_driver.specs.declared.status.Status.TheVariants.{Usage, NoMemory}
-use Rattle.direct_world.specs.declared.world.Record.{Record}
+use Rattle.fabric_core.specs.declared.fabric.Record.{Record}
 use Rattle.pld_session.specs.Headline.{SessionEnds, NothingHappened, default_rounds}
 use Rattle.pld_program.specs.Lines.{line_of, PutsLine}
 

@@ -1,25 +1,26 @@
 -- The replies to a text are the same, whatever the records of its runs.
-use Rattle.std.proofs.Common.{◌≡◌, ℕ, ◌+◌, Bool, true, false, List, [], ◌∷◌, ◌++◌, Option, Some, None, refl, sym, ap, ◌∙◌, subst}
+use Rattle.std.proofs.Common.{◌≡◌, ℕ, Bool, true, false, List, [], ◌∷◌, ◌++◌, Option, Some, None, refl, sym, ap, ◌∙◌, subst}
 use Rattle.std.proofs.lemmas.List.Elements.{All-head, All-tail}
 use Rattle.std.specs.Prelude.{IsSome, nat_lt, if◌then◌else◌}
-use Rattle.direct_world.specs.declared.entry.Entry.{Entry}
-use Rattle.direct_world.specs.Plan.{PlanValue}
-use Rattle.direct_world.specs.Replay.{outcome, replay, IsPlain}
+use Rattle.fabric_run.specs.declared.entry.Entry.{Entry}
+use Rattle.fabric_run.specs.Plan.{PlanValue}
+use Rattle.fabric_run.specs.Replay.{outcome, replay, IsPlain}
+use Rattle.fabric_run.specs.Trees.{tree_setup}
 use Rattle.pld_script.specs.declared.statement.Statement.{Statement}
 use Rattle.pld_script.specs.declared.statement.Statement.TheVariants as says
 use Rattle.pld_script.specs.Statements.{Placed}
 use Rattle.pld_driver.specs.Walk.{Answered, Step, Says, Runs, Walked, after, walk, is_quit}
 use Rattle.pld_driver.proofs.Walks.{pick}
-use Rattle.direct_world.specs.declared.world.Record.{Record}
+use Rattle.fabric_core.specs.declared.fabric.Record.{Record}
 use Rattle.pld_session.specs.States.{State}
 use Rattle.pld_reply.specs.declared.refusals.Refusal.TheVariants as refusal
-use Rattle.pld_session.specs.Runs.{ran_reply}
 use Rattle.pld_session.specs.Answers.{answer, answer_to, refuses, ran, runs_built, most_runs, Fits}
 use Rattle.pld_session.specs.Laws.{IsRecorded}
 
 -- a plan has one run of `plain`
 abbrev pub OnePlain : Type 0
-OnePlain = (plan : PlanValue) (journal other : List Entry) → IsPlain plan journal → IsSome (outcome plan (replay plan journal)) → IsPlain plan other → IsSome (outcome plan (replay plan other)) → journal ≡ other
+OnePlain = (plan : PlanValue) (journal other : List Entry) → IsPlain (tree_setup plan) journal → IsSome (outcome (tree_setup plan) (replay (tree_setup plan) journal))
+    → IsPlain (tree_setup plan) other → IsSome (outcome (tree_setup plan) (replay (tree_setup plan) other)) → journal ≡ other
 
 -- whatever records fit, the answer is the same
 abbrev Agrees : State → Step State Record → Type 0
@@ -27,18 +28,17 @@ Agrees st (Says given) = Unit {0}
 Agrees st (Runs f) = (r s : Record) → Fits st r → Fits st s → f r ≡ f s
 
 -- a record that fits is the only one
-one_record : (one : OnePlain) (plan : PlanValue) (r s : Record) → r.plan ≡ plan → s.plan ≡ plan → IsPlain r.plan r.journal → IsSome (outcome r.plan (replay r.plan r.journal)) → IsPlain s.plan s.journal → IsSome (outcome s.plan (replay s.plan s.journal)) → r ≡ s
-one_record one plan r s e f a b c d =
-    let same : s.plan ≡ r.plan = f ∙ sym e in
-    let journals : r.journal ≡ s.journal = one r.plan r.journal s.journal a b (subst (λ p. IsPlain p s.journal) same c) (subst (λ p. IsSome (outcome p (replay p s.journal))) same d) in
+one_record : (one : OnePlain) (st : State) (r s : Record) → Fits st r → Fits st s → r ≡ s
+one_record one st r s f g =
+    let same : s.plan ≡ r.plan = g.plan ∙ sym f.plan in
+    let journals : r.journal ≡ s.journal = one r.plan r.journal s.journal f.ordered f.over
+    (subst (λ p. IsPlain (tree_setup p) s.journal) same g.ordered) (subst (λ p. IsSome (outcome (tree_setup p) (replay (tree_setup p) s.journal))) same g.over) in
     let P : PlanValue → Record = λ p. record { plan = p; journal = r.journal } in
     let J : List Entry → Record = λ j. record { plan = s.plan; journal = j } in
     ap P (sym same) ∙ ap J journals
 
 run_agrees : (st : State) (number : ℕ) → OnePlain → Agrees st (Runs (ran st))
-run_agrees st number one = λ r s fit fit'.
-    let A : Answered State = record { reply = []; refused = false; permits = 0; next = record st { runs = st.runs + 1 } } in
-    ap (λ x. record A { reply = ran_reply st.draft x }) (one_record one _ r s fit.plan fit'.plan fit.plain fit.over fit'.plain fit'.over)
+run_agrees st number one = λ r s fit fit'. ap (ran st) (one_record one st r s fit fit')
 
 built_agrees : (st : State) (number : ℕ) (b : Bool) → OnePlain → Agrees st (if b then Runs (ran st) else Says (refuses st number refusal.TooManyRuns))
 built_agrees st number true one = run_agrees st number one
@@ -54,6 +54,8 @@ answer_agrees st number (Some (says.Edit edit)) one = tt
 answer_agrees st number (Some says.Build) one = tt
 answer_agrees st number (Some says.Run) one = runs_agrees st number st.built one
 answer_agrees st number (Some (says.DumpImage name)) one = tt
+answer_agrees st number (Some says.DumpTables) one = tt
+answer_agrees st number (Some says.Stats) one = tt
 answer_agrees st number (Some says.Quit) one = tt
 
 -- one answer, and then the others

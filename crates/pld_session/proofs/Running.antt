@@ -1,60 +1,95 @@
 -- The run of a design that was built.
-use Rattle.std.proofs.Common.{◌≡◌, ℕ, zero, suc, ◌+◌, ◌<◌, ◌≤◌, Bool, true, false, List, [], ◌∷◌, ◌++◌, All, length, map, Option, Some, None, refl, sym, ap, subst, ◌∙◌, arith}
+use Rattle.std.proofs.Common.{◌≡◌, ℕ, zero, suc, ◌+◌, ◌-◌, ◌^◌, ◌<◌, ◌≤◌, Bool, true, false, List, [], ◌∷◌, ◌++◌, length, map, Option, Some, inl, refl, sym, ap, subst, ◌∙◌, arith}
+use Rattle.std.proofs.Math.Nat.{pow-le-pow_right}
 use Rattle.std.proofs.lemmas.Bool.Decides.{nat_tests}
-use Rattle.std.specs.Prelude.{IsSome, slice_index_or, nat_lt, if◌then◌else◌}
-use Rattle.std.specs.List.{AllByRecursion}
+use Rattle.std.specs.Prelude.{Result, Ok, Err, OnErr, slice_get, slice_index_or, nat_lt, if◌then◌else◌}
+use Rattle.std.specs.List.{All, AllByRecursion}
+use Rattle.std.specs.Str.{bytes_eq}
 use Rattle.std.proofs.lemmas.List.Elements.{All-head, All-tail, All-nil, All-cons}
+use Rattle.std.proofs.lemmas.Option.{none-some, same_Some}
+use Rattle.net_switch.specs.declared.packet.Row.{Row}
 use Rattle.pld_base.specs.Words.{IsWord}
 use Rattle.pld_base.specs.Machine.{machine}
-use Rattle.pld_base.specs.Process.{Process, IsProcess, WritesWords, idle}
+use Rattle.pld_base.specs.Process.{IsProcess, WritesWords, idle}
 use Rattle.pld_kahn.specs.Realises.{Realises}
 use Rattle.pld_ast.specs.Resolve.{program_of}
 use Rattle.pld_ast.specs.Sound.{IsSound}
-use Rattle.pld_graph.specs.Design.{Design, inputs, outputs}
-use Rattle.direct_world.specs.Reply.{reply as run_reply, name_in}
-use Rattle.pld_graph.specs.Sound.{IsSound as IsSoundDesign}
 use Rattle.pld_graph.specs.declared.parts.OperatorEntry.{OperatorEntry}
-use Rattle.image_form.specs.Spelling.{Form}
+use Rattle.pld_graph.specs.Design.{Design, inputs, outputs, operator_at}
+use Rattle.pld_graph.specs.Sound.{IsSound as IsSoundDesign}
+use Rattle.pld_place.specs.Placing.{pages, placed, IsPlaced}
+use Rattle.pld_link.specs.Seats.{IsPlacement, operator_names}
+use Rattle.pld_link.specs.Rows.{rows}
+use Rattle.image_form.specs.Spelling.{Form, IsForm}
 use Rattle.pld_image.specs.Cores.{load, next}
+use Rattle.pld_image.specs.Ports.{ins_of, outs_of}
 use Rattle.pld_image.specs.Processes.{process_of}
 use Rattle.pld_draft.specs.declared.parts.Source.{Source}
+use Rattle.pld_draft.specs.declared.parts.Feed.{Feed}
 use Rattle.pld_draft.specs.Draft.{DraftState, IsKept, entry_ports, source_ports, Ports, words_of}
 use Rattle.pld_build.specs.Images.{image_of, meaning_of}
-use Rattle.pld_link.specs.Seats.{HasSlots}
-use Rattle.direct_world.specs.declared.entry.Entry.{Entry}
-use Rattle.direct_world.specs.declared.world.Record.{Record}
-use Rattle.direct_world.specs.Kept.{RunValue, state_of}
-use Rattle.direct_world.specs.Plan.{PlanValue, no_image}
-use Rattle.direct_world.specs.Laws.{IsDesign, network}
-use Rattle.direct_world.specs.Promise.{KeepsPromise}
-use Rattle.direct_world.specs.Replay.{outcome, replay, IsLegal, IsPlain}
-use Rattle.design_plan.specs.Plans.{plan_of}
-use Rattle.design_plan.specs.Wiring.{design_network}
-use Rattle.design_plan.specs.Runnable.{IsRunnable, page_process}
+use Rattle.fabric_run.specs.Plan.{PlanValue}
+use Rattle.fabric_run.specs.Reply.{reply as run_reply, name_in}
+use Rattle.fabric_run.specs.Shown.{shown}
+use Rattle.fabric_run.specs.Trees.{tree_setup}
+use Rattle.fabric_core.specs.Runs.{RunValue, setup_for, state_of}
+use Rattle.fabric_core.specs.declared.counts.Counts.{Counts}
+use Rattle.fabric_core.specs.declared.fabric.Record.{Record}
+use Rattle.fabric_plan.specs.Plans.{Given}
+use Rattle.fabric_plan.specs.Runnable.{IsRunnable, ArePlaced, HaveImages, AreFed, KeepMeaning}
+use Rattle.fabric_plan.specs.Standing.{AreStanding, standing_rows}
 use Rattle.pld_driver.specs.Walk.{Step, Says, Runs}
-use Rattle.pld_driver.specs.Moments.{Took}
+use Rattle.pld_driver.specs.Moments.{Took, Broke}
 use Rattle.pld_driver.specs.declared.engine.Bench.{Bench}
-use Rattle.pld_link.specs.Seats.{operator_names}
 use Rattle.pld_reply.specs.declared.refusals.Refusal.TheVariants as refusal
-use Rattle.pld_session.specs.States.{State, images}
-use Rattle.pld_session.specs.Runs.{meanings, feeds, plan_in, ran_reply, FitsRun}
-use Rattle.pld_session.specs.Answers.{runs, runs_built, ran, refuses, most_runs, Fits}
+use Rattle.pld_session.specs.States.{State, BuildValue, IsBuild, CanBuild, images, leaves}
+use Rattle.pld_session.specs.Runs.{meanings, feeds, given_in, ran_reply, end_of, counts_of, Plain, FitsRun, FitsNow, holding}
+use Rattle.pld_session.specs.Answers.{runs, runs_built, ran, after_run, refuses, most_runs, Fits}
 
 -- what the laws below tell
 pub record Laws : Type 0 where
   pub meaning : (s : Source) → IsSound (program_of s.operator) → Realises (process_of (image_of s)) (meaning_of s)
   pub words : (s : Source) → IsSound (program_of s.operator) → WritesWords (process_of (image_of s))
   pub cores : (form : Form) → machine next (load form) ≡ process_of form
-  pub legal : (plan : PlanValue) (journal : List Entry) → length plan.pages ≤ 63 → IsPlain plan journal → IsLegal plan journal
-  pub keep : (plan : PlanValue) (operators : List Process) (journal : List Entry) → IsDesign plan operators → IsLegal plan journal → KeepsPromise plan operators journal
-  pub design : (d : Design) (forms : List Form) (words : List (List ℕ)) (rounds : ℕ) (operators : List Process) → IsRunnable d forms words rounds operators → IsDesign (plan_of d forms words rounds) operators
-  pub network : (d : Design) (forms : List Form) (words : List (List ℕ)) (rounds : ℕ) (operators : List Process) → IsRunnable d forms words rounds operators
-      → network (plan_of d forms words rounds) operators ≡ design_network d operators words
+  pub forms : (s : Source) → IsSound (program_of s.operator) → IsForm (image_of s)
+  pub ins : (s : Source) → ins_of (image_of s) ≡ (program_of s.operator).ins
+  pub outs : (s : Source) → outs_of (image_of s) ≡ (program_of s.operator).outs
+  pub place : (d : Design) → IsSoundDesign d → length d.operators ≤ pages d → IsPlaced d (placed d)
 
 -- a list has as many elements as what a function makes of them
 pub many : {X Y : Type 0} (f : X → Y) (xs : List X) → length (map f xs) ≡ length xs
 many f [] = refl
 many f (x ∷ xs) = ap suc (many f xs)
+
+-- what holds of each element holds of what a function makes of it
+mapped : {X Y : Type 0} (P : X → Type 0) (Q : Y → Type 0) (f : X → Y) (xs : List X) → ((x : X) → P x → Q (f x)) → All P xs → All Q (map f xs)
+mapped P Q f [] each h = All-nil Q
+mapped P Q f (x ∷ xs) each h = All-cons Q (f x) (map f xs) (each x (All-head P x xs h)) (mapped P Q f xs each (All-tail P x xs h))
+
+abbrev SoundSource : Source → Type 0
+SoundSource s = IsSound (program_of s.operator)
+
+-- the k-th source, of which the k-th element is made
+record At {Y : Type 0} (P : Source → Type 0) (f : Source → Y) (ss : List Source) (k : ℕ) (y : Y) : Type 0 where
+  source : Source
+  there : slice_get ss k ≡ Some source
+  holds : P source
+  made : y ≡ f source
+
+at : {Y : Type 0} (P : Source → Type 0) (f : Source → Y) (ss : List Source) (k : ℕ) (y : Y) → slice_get (map f ss) k ≡ Some y → All P ss → At P f ss k y
+at P f [] zero y e h = absurd (none-some y e)
+at P f [] (suc k) y e h = absurd (none-some y e)
+at P f (s ∷ ss) zero y e h = record { source = s; there = refl; holds = All-head P s ss h; made = sym (same_Some (f s) y e) }
+at P f (s ∷ ss) (suc k) y e h =
+    let r : At P f ss k y = at P f ss k y e (All-tail P s ss h) in
+    record { source = r.source; there = r.there; holds = r.holds; made = r.made }
+
+-- what a function makes of the k-th element
+made_of : {X Y : Type 0} (f : X → Y) (xs : List X) (k : ℕ) (x : X) (y : Y) → slice_get xs k ≡ Some x → slice_index_or (map f xs) k y ≡ f x
+made_of f [] zero x y e = absurd (none-some x e)
+made_of f [] (suc k) x y e = absurd (none-some x e)
+made_of f (z ∷ xs) zero x y e = ap f (same_Some z x e)
+made_of f (z ∷ xs) (suc k) x y e = made_of f xs k x y e
 
 abbrev first : Ports → List Ports → Ports
 first p [] = p
@@ -64,115 +99,202 @@ abbrev rest : List Ports → List Ports
 rest [] = []
 rest (x ∷ xs) = xs
 
-abbrev SoundSource : Source → Type 0
-SoundSource s = IsSound (program_of s.operator)
+-- the k-th operator has the k-th source's ports
+ports_at : (os : List OperatorEntry) (ss : List Source) (k : ℕ) (s : Source) → map entry_ports os ≡ map source_ports ss → slice_get ss k ≡ Some s → entry_ports (operator_at os k) ≡ source_ports s
+ports_at os [] zero s e there = absurd (none-some s there)
+ports_at os [] (suc k) s e there = absurd (none-some s there)
+ports_at [] (z ∷ ss) k s e there = let n : 0 ≡ suc (length (map source_ports ss)) = ap length e in absurd (omega (arith, n))
+ports_at (o ∷ os) (z ∷ ss) zero s e there = ap (first (entry_ports o)) e ∙ ap source_ports (same_Some z s there)
+ports_at (o ∷ os) (z ∷ ss) (suc k) s e there = ports_at os ss k s (ap rest e) there
 
-abbrev Fits8 : OperatorEntry → Type 0
-Fits8 o = (o.ins ≤ 8) × (o.outs ≤ 8)
+-- no input has more words than a feed may have
+words_short : (name : List ℕ) (fs : List Feed) → All (λ f. length f.words ≤ 65536) fs → length (words_of name fs) ≤ 65536
+words_short name [] h = omega arith
+words_short name (f ∷ fs) h =
+    pick (bytes_eq f.name name) f.words (words_of name fs) (All-head (λ f. length f.words ≤ 65536) f fs h) (words_short name fs (All-tail (λ f. length f.words ≤ 65536) f fs h))
+  where
+    pick : (b : Bool) (xs ys : List ℕ) → length xs ≤ 65536 → length ys ≤ 65536 → length (if b then xs else ys) ≤ 65536
+    pick true xs ys h g = h
+    pick false xs ys h g = g
 
--- operators whose ports are those of sound sources have at most eight on each side
-slots : (os : List OperatorEntry) (ss : List Source) → map entry_ports os ≡ map source_ports ss → All SoundSource ss → All Fits8 os
-slots [] ss e h = All-nil Fits8
-slots (o ∷ os) [] e h = let n : suc (length (map entry_ports os)) ≡ 0 = ap length e in absurd (omega (arith, n))
-slots (o ∷ os) (s ∷ ss) e h =
-    let same : entry_ports o ≡ source_ports s = ap (first (entry_ports o)) e in
-    let sound : SoundSource s = All-head SoundSource s ss h in
-    All-cons Fits8 o os
-    (subst (λ n. n ≤ 8) (sym (ap (λ (p : Ports). p.ins) same)) sound.ins, subst (λ n. n ≤ 8) (sym (ap (λ (p : Ports). p.outs) same)) sound.outs)
-    (slots os ss (ap rest e) (All-tail SoundSource s ss h))
-
--- the k-th source, with what is made of it
-record At {Y Z : Type 0} (P : Source → Type 0) (f : Source → Y) (g : Source → Z) (ss : List Source) (k : ℕ) (y : Y) (z : Z) : Type 0 where
-  source : Source
-  holds : P source
-  first : slice_index_or (map f ss) k y ≡ f source
-  second : slice_index_or (map g ss) k z ≡ g source
-
-at : {Y Z : Type 0} (P : Source → Type 0) (f : Source → Y) (g : Source → Z) (ss : List Source) (k : ℕ) (y : Y) (z : Z) → k < length (map f ss) → All P ss → At P f g ss k y z
-at P f g [] k y z l h = absurd (omega (arith, l))
-at P f g (s ∷ ss) zero y z l h = record { source = s; holds = All-head P s ss h; first = refl; second = refl }
-at P f g (s ∷ ss) (suc k) y z l h =
-    let r : At P f g ss k y z = at P f g ss k y z (omega (arith, l)) (All-tail P s ss h) in
-    record { source = r.source; holds = r.holds; first = r.first; second = r.second }
-
--- what is known of a draft whose design was built
-pub record IsReady (rounds : ℕ) (d : DraftState) : Type 0 where
+-- what is known of a draft whose design was built, and of the rows that stand
+pub record IsReady (rounds : ℕ) (d : DraftState) (made : BuildValue) (standing : List (Option Row)) : Type 0 where
   pub a_round : 1 ≤ rounds
   pub kept : IsKept d
   pub design : IsSoundDesign d.design
-  pub an_operator : 1 ≤ length d.sources
+  pub built : IsBuild d made
+  pub stands : AreStanding d.design.depth standing
   pub processes : AllByRecursion IsProcess (meanings d)
   pub sound : All SoundSource d.sources
   pub words : All (All IsWord) (feeds d)
 
 -- there is an operator for each source
-operators_many : (d : DraftState) → IsKept d → length d.design.operators ≡ length d.sources
+pub operators_many : (d : DraftState) → IsKept d → length d.design.operators ≡ length d.sources
 operators_many d k = sym (many entry_ports d.design.operators) ∙ ap length k.ports ∙ many source_ports d.sources
 
-page_realises : (laws : Laws) (d : DraftState) → All SoundSource d.sources → (k : ℕ) → k < length (images d) → Realises (page_process (images d) k) (slice_index_or (meanings d) k idle)
-page_realises laws d h k l =
-    let r : At SoundSource image_of meaning_of d.sources k no_image idle = at SoundSource image_of meaning_of d.sources k no_image idle l h in
-    let P : Form → Type 0 = λ f. Realises (machine next (load f)) (slice_index_or (meanings d) k idle) in
-    subst P (sym r.first) (subst (λ q. Realises (machine next (load (image_of r.source))) q) (sym r.second)
-    (subst (λ p. Realises p (meaning_of r.source)) (sym (laws.cores (image_of r.source))) (laws.meaning r.source r.holds)))
+-- a tree of depth 6 at most has 63 pages at most
+few_pages : (depth : ℕ) → depth ≤ 6 → 2 ^ depth - 1 ≤ 63
+few_pages depth l = let p : 2 ^ depth ≤ 2 ^ 6 = pow-le-pow_right (omega arith) l in omega (arith, p)
 
-page_writes : (laws : Laws) (d : DraftState) → All SoundSource d.sources → (k : ℕ) → k < length (images d) → WritesWords (page_process (images d) k)
-page_writes laws d h k l =
-    let r : At SoundSource image_of meaning_of d.sources k no_image idle = at SoundSource image_of meaning_of d.sources k no_image idle l h in
-    let P : Form → Type 0 = λ f. WritesWords (machine next (load f)) in
-    subst P (sym r.first) (subst WritesWords (sym (laws.cores (image_of r.source))) (laws.words r.source r.holds))
+some_leaf : (depth : ℕ) → 0 < 2 ^ depth
+some_leaf depth = pow-le-pow_right (omega arith) (let z : 0 ≤ depth = omega arith in z)
 
-pub runnable : (laws : Laws) (rounds : ℕ) (d : DraftState) → IsReady rounds d → IsRunnable d.design (images d) (feeds d) rounds (meanings d)
-runnable laws rounds d h = record {
-  sound = h.design;
-  slots = slots d.design.operators d.sources h.kept.ports h.sound;
-  an_operator = subst (λ n. 1 ≤ n) (sym (operators_many d h.kept)) h.an_operator;
-  as_many_images = many image_of d.sources ∙ sym (operators_many d h.kept);
-  as_many_processes = many meaning_of d.sources ∙ sym (operators_many d h.kept);
-  as_many_feeds = many (λ name. words_of name d.feeds) (inputs d.design.channels);
-  words = h.words;
-  a_round = h.a_round;
-  processes = h.processes;
-  realise = page_realises laws d h.sound;
-  write = page_writes laws d h.sound;
-}
-
--- the run of the design's plan
-pub fits : (laws : Laws) (rounds : ℕ) (d : DraftState) (world : RunValue) → IsReady rounds d → world.plan ≡ plan_in rounds d
-    → IsPlain world.plan world.journal → IsSome (outcome world.plan (state_of world)) → FitsRun rounds d (record { plan = world.plan; journal = world.journal })
-fits laws rounds d world ready is plain over =
-    let can : IsRunnable d.design (images d) (feeds d) rounds (meanings d) = runnable laws rounds d ready in
-    let design : IsDesign world.plan (meanings d) = subst (λ p. IsDesign p (meanings d)) (sym is) (laws.design d.design (images d) (feeds d) rounds (meanings d) can) in
-    let few : length world.plan.pages ≤ 63 = design.sound.pages.1 in
-    let legal : IsLegal world.plan world.journal = laws.legal world.plan world.journal few plain in
+-- the leaves of a placed design
+pub placement : (d : Design) → IsSoundDesign d → IsPlaced d (placed d) → IsPlacement d (placed d)
+placement d sound p =
+    let few : 2 ^ d.depth - 1 ≤ 63 = few_pages d.depth sound.most in
     record {
-      plan = is;
-      legal = legal;
-      over = over;
-      plain = plain;
-      design = design;
-      network = subst (λ p. network p (meanings d) ≡ design_network d.design (meanings d) (feeds d)) (sym is) (laws.network d.design (images d) (feeds d) rounds (meanings d) can);
-      promise = laws.keep world.plan (meanings d) world.journal design legal;
+      each = p.each;
+      pages = λ k x l. (let w = p.within k x l in (w.0, omega (arith, w.1, few)));
+      alone = p.alone;
     }
 
--- there is a page for each operator
-pub pages_many : (rounds : ℕ) (d : DraftState) (run : Record) (names : List (List ℕ)) → FitsRun rounds d run → IsKept d → names ≡ operator_names d.design → length names ≡ length run.plan.pages
-pages_many rounds d run names fit kept e =
-    ap length e ∙ many (λ o. o.name) d.design.operators ∙ operators_many d kept ∙ sym (many image_of d.sources) ∙ sym (ap (λ (p : PlanValue). length p.pages) fit.plan)
+module _ (laws : Laws) (rounds : ℕ) (d : DraftState) (made : BuildValue) (standing : List (Option Row)) (h : IsReady rounds d made standing) where
+  can : CanBuild d
+  can = h.built.can
+
+  enough : length d.design.operators ≤ pages d.design
+  enough = subst (λ n. n ≤ pages d.design) (sym (operators_many d h.kept)) can.enough
+
+  is_placed : IsPlaced d.design (leaves d)
+  is_placed = laws.place d.design h.design enough
+
+  are_placed : ArePlaced d.design (leaves d)
+  are_placed = record {
+    placement = placement d.design h.design is_placed;
+    within = λ k x l. (let w = is_placed.within k x l in let s = some_leaf d.design.depth in omega (arith, w.1, s));
+  }
+
+  image_ports : (k : ℕ) (image : Form) → slice_get (images d) k ≡ Some image → (ins_of image ≡ (operator_at d.design.operators k).ins) × (outs_of image ≡ (operator_at d.design.operators k).outs)
+  image_ports k image e =
+      let r : At SoundSource image_of d.sources k image = at SoundSource image_of d.sources k image e h.sound in
+      let same : entry_ports (operator_at d.design.operators k) ≡ source_ports r.source = ports_at d.design.operators d.sources k r.source h.kept.ports r.there in
+      (ap ins_of r.made ∙ laws.ins r.source ∙ sym (ap (λ (p : Ports). p.ins) same), ap outs_of r.made ∙ laws.outs r.source ∙ sym (ap (λ (p : Ports). p.outs) same))
+
+  have_images : HaveImages d.design (images d)
+  have_images = record {
+    many = many image_of d.sources ∙ sym (operators_many d h.kept);
+    forms = mapped SoundSource IsForm image_of d.sources laws.forms h.sound;
+    ins = λ k image e. (image_ports k image e).0;
+    outs = λ k image e. (image_ports k image e).1;
+  }
+
+  are_fed : AreFed d.design (feeds d)
+  are_fed = record {
+    many = many (λ name. words_of name d.feeds) (inputs d.design.channels);
+    short = short (inputs d.design.channels);
+    words = h.words;
+  }
+    where
+      Short : List ℕ → Type 0
+      Short feed = length feed ≤ 65536
+
+      short : (names : List (List ℕ)) → All (λ feed. length feed ≤ 65536) (map (λ name. words_of name d.feeds) names)
+      short [] = All-nil (λ (feed : List ℕ). length feed ≤ 65536)
+      short (name ∷ names) = All-cons (λ (feed : List ℕ). length feed ≤ 65536) (words_of name d.feeds) (map (λ name. words_of name d.feeds) names) (words_short name d.feeds h.kept.few) (short names)
+
+  pub runnable : IsRunnable d.design (given_in (holding rounds d standing))
+  runnable = record {
+    sound = h.design;
+    closed = can.closed;
+    an_operator = subst (λ n. 1 ≤ n) (sym (operators_many d h.kept)) can.an_operator;
+    placed = are_placed;
+    images = have_images;
+    fed = are_fed;
+    before = h.stands;
+    a_round = h.a_round;
+  }
+
+  realises : (k : ℕ) (image : Form) → slice_get (images d) k ≡ Some image → Realises (machine next (load image)) (slice_index_or (meanings d) k idle)
+  realises k image e =
+      let r : At SoundSource image_of d.sources k image = at SoundSource image_of d.sources k image e h.sound in
+      let P : Form → Type 0 = λ f. Realises (machine next (load f)) (slice_index_or (meanings d) k idle) in
+      subst P (sym r.made) (subst (λ q. Realises (machine next (load (image_of r.source))) q) (sym (made_of meaning_of d.sources k r.source idle r.there))
+      (subst (λ p. Realises p (meaning_of r.source)) (sym (laws.cores (image_of r.source))) (laws.meaning r.source r.holds)))
+
+  writes : (k : ℕ) (image : Form) → slice_get (images d) k ≡ Some image → WritesWords (machine next (load image))
+  writes k image e =
+      let r : At SoundSource image_of d.sources k image = at SoundSource image_of d.sources k image e h.sound in
+      let P : Form → Type 0 = λ f. WritesWords (machine next (load f)) in
+      subst P (sym r.made) (subst WritesWords (sym (laws.cores (image_of r.source))) (laws.words r.source r.holds))
+
+  pub means : KeepMeaning (images d) (meanings d)
+  means = record {
+    many = many meaning_of d.sources ∙ sym (many image_of d.sources);
+    processes = h.processes;
+    realise = realises;
+    write = writes;
+  }
+
+-- there is a leaf for each operator
+pub leaves_many : ((d : Design) → IsSoundDesign d → length d.operators ≤ pages d → IsPlaced d (placed d)) → (d : DraftState) (made : BuildValue) → IsKept d → IsSoundDesign d.design → IsBuild d made
+    → length made.leaves ≡ length d.design.operators
+leaves_many place d made kept sound built =
+    ap length built.leaves ∙ (place d.design sound (subst (λ n. n ≤ pages d.design) (sym (operators_many d kept)) built.can.enough)).each
+
+-- what is given, of equal parts
+pub same_given : (a b : Given) → a.leaves ≡ b.leaves → a.images ≡ b.images → a.before ≡ b.before → a.feeds ≡ b.feeds → a.rounds ≡ b.rounds → a ≡ b
+same_given a b l i p f r =
+    ap (λ x. record { leaves = x; images = a.images; before = a.before; feeds = a.feeds; rounds = a.rounds }) l
+    ∙ ap (λ x. record { leaves = b.leaves; images = x; before = a.before; feeds = a.feeds; rounds = a.rounds }) i
+    ∙ ap (λ x. record { leaves = b.leaves; images = b.images; before = x; feeds = a.feeds; rounds = a.rounds }) p
+    ∙ ap (λ x. record { leaves = b.leaves; images = b.images; before = b.before; feeds = x; rounds = a.rounds }) f
+    ∙ ap (λ x. record { leaves = b.leaves; images = b.images; before = b.before; feeds = b.feeds; rounds = x }) r
+
+-- the state behind a run
+pub run_state : (rounds : ℕ) (d : DraftState) (built : Bool) (standing left : List (Option Row)) (count : ℕ) (counted : Option Counts) (counts : Counts) (run : Record)
+    → left ≡ standing_rows (tree_setup run.plan) (end_of run) → counts ≡ counts_of run
+    → ◌≡◌ {A = State} (record { rounds = rounds; draft = d; built = built; standing = left; runs = count + 1; counted = Some counts })
+    (after_run (record { rounds = rounds; draft = d; built = built; standing = standing; runs = count; counted = counted }) run)
+run_state rounds d built standing left count counted counts run rows same =
+    ap (λ l. record { rounds = rounds; draft = d; built = built; standing = l; runs = count + 1; counted = Some counts }) rows
+    ∙ ap (λ x. record { rounds = rounds; draft = d; built = built; standing = standing_rows (tree_setup run.plan) (end_of run); runs = count + 1; counted = Some x }) same
+
+pub same_counts : (a b : Counts) → a.rounds ≡ b.rounds → a.packets ≡ b.packets → a.deflected ≡ b.deflected → a.configs ≡ b.configs → a ≡ b
+same_counts a b r p d c =
+    ap (λ x. record { rounds = x; packets = a.packets; deflected = a.deflected; configs = a.configs }) r
+    ∙ ap (λ x. record { rounds = b.rounds; packets = x; deflected = a.deflected; configs = a.configs }) p
+    ∙ ap (λ x. record { rounds = b.rounds; packets = b.packets; deflected = x; configs = a.configs }) d
+    ∙ ap (λ x. record { rounds = b.rounds; packets = b.packets; deflected = b.deflected; configs = x }) c
+
+-- a record that fits what a state holds fits the state
+pub fits_state : (st : State) (run : Record) → FitsNow st.rounds st.draft st.standing run → FitsRun Plain st run
+fits_state st run h = record { plan = h.plan; runnable = h.runnable; means = h.means; legal = h.legal; over = h.over; ordered = h.ordered }
+
+-- a run leaves rows for a tree of the design's depth
+pub left_stand : (rounds : ℕ) (d : DraftState) (standing left : List (Option Row)) (run : Record) → FitsNow rounds d standing run → AreStanding run.plan.depth left → AreStanding d.design.depth left
+left_stand rounds d standing left run fit h = subst (λ (p : PlanValue). AreStanding p.depth left) fit.plan h
 
 -- what was written is the reply
-pub said : (names outs : List (List ℕ)) (d : DraftState) (world : RunValue) (old reply : List ℕ) → reply ≡ old ++ run_reply (name_in names) (name_in outs) world.plan (state_of world) → old ≡ []
-    → names ≡ operator_names d.design → outs ≡ outputs d.design.channels → reply ≡ ran_reply d (record { plan = world.plan; journal = world.journal })
-said names outs d world old reply e none n o =
-    e ∙ ap (λ l. l ++ run_reply (name_in names) (name_in outs) world.plan (state_of world)) none
-    ∙ ap (λ x. run_reply (name_in x) (name_in outs) world.plan (state_of world)) n ∙ ap (λ x. run_reply (name_in (operator_names d.design)) (name_in x) world.plan (state_of world)) o
+pub said : (names outs : List (List ℕ)) (d : DraftState) (run : RunValue) (old reply : List ℕ)
+    → reply ≡ old ++ run_reply (name_in names) (name_in outs) (length run.plan.pages) run.plan.outs (shown (setup_for run) (state_of run)) → old ≡ []
+    → names ≡ operator_names d.design → outs ≡ outputs d.design.channels → reply ≡ ran_reply d (record { plan = run.plan; journal = run.journal })
+said names outs d run old reply e none n o =
+    let text : List (List ℕ) → List (List ℕ) → List ℕ = λ x y. run_reply (name_in x) (name_in y) (length run.plan.pages) run.plan.outs (shown (setup_for run) (state_of run)) in
+    e ∙ ap (λ l. l ++ text names outs) none ∙ ap (λ x. text x outs) n ∙ ap (λ x. text (operator_names d.design) x) o
 
 pub below : (n m : ℕ) → n < m → nat_lt n m ≡ true
 below n m h = grind (arith, nat_tests, h)
 
+-- the record of a run stands last
+pub recorded : (old mid new : List Record) (made run : Record) → mid ≡ old → new ≡ mid ++ made ∷ [] → made.plan ≡ run.plan → made.journal ≡ run.journal → new ≡ old ++ run ∷ []
+recorded old mid new made run e p plan journal =
+    p ∙ ap (λ l. l ++ made ∷ []) e ∙ ap (λ x. old ++ (record { plan = x; journal = made.journal }) ∷ []) plan ∙ ap (λ x. old ++ (record { plan = run.plan; journal = x }) ∷ []) journal
+
+-- a run that isn't made leaves nothing
+pub not_yet : (st : State) (number : ℕ) (old new : Bench Record) → st.built ≡ true → nat_lt st.runs most_runs ≡ true → new.records.items ≡ old.records.items → new.permits ≡ old.permits → Broke (runs st number) (Fits st) old new
+not_yet st number old new built few records permits =
+    let Built : Bool → Step State Record = λ b. if b then runs_built st number else Says (refuses st number refusal.NotBuilt) in
+    let Few : Bool → Step State Record = λ b. if b then Runs (ran st) else Says (refuses st number refusal.TooManyRuns) in
+    subst (λ x. Broke x (Fits st) old new) (sym (ap Built built ∙ ap Few few)) (inl (records, permits))
+
+pub on_err : {A E : Type 0} {P : Type 0} (r : Result A E) → P → OnErr r P
+on_err (Ok x) h = tt
+on_err (Err e) h = h
+
 -- a run was made, and its record left
-pub took : (st : State) (number : ℕ) (run : Record) (old new : Bench Record) (reply : List ℕ) (next : State) → st.built ≡ true → nat_lt st.runs most_runs ≡ true → FitsRun st.rounds st.draft run
-    → new.records.items ≡ old.records.items ++ run ∷ [] → new.permits ≡ old.permits → reply ≡ ran_reply st.draft run → next ≡ record st { runs = st.runs + 1 } → Took (runs st number) (Fits st) old new reply false next
+pub took : (st : State) (number : ℕ) (run : Record) (old new : Bench Record) (reply : List ℕ) (next : State) → st.built ≡ true → nat_lt st.runs most_runs ≡ true → FitsRun Plain st run
+    → new.records.items ≡ old.records.items ++ run ∷ [] → new.permits ≡ old.permits → reply ≡ ran_reply st.draft run → next ≡ after_run st run → Took (runs st number) (Fits st) old new reply false next
 took st number run old new reply next built few fit records permits said state =
     let Built : Bool → Step State Record = λ b. if b then runs_built st number else Says (refuses st number refusal.NotBuilt) in
     let Few : Bool → Step State Record = λ b. if b then Runs (ran st) else Says (refuses st number refusal.TooManyRuns) in

@@ -1,6 +1,6 @@
 -- The answers to edits, joined from their parts.
 use Rattle.std.proofs.Common.{◌≡◌, ℕ, zero, suc, ◌+◌, ◌<◌, ◌≤◌, Bool, true, false, true≢false, ◌&&◌, List, [], ◌∷◌, length, map, arith, Option, Some, None, Result, Ok, Err, refl, sym, ap, ◌∙◌, subst}
-use Rattle.std.specs.Prelude.{nat_le, IfOk, slice_index_or, if◌then◌else◌}
+use Rattle.std.specs.Prelude.{nat_le, nat_lt, IfOk, slice_index_or, if◌then◌else◌}
 use Rattle.pld_script.specs.declared.statement.Edit.{Edit}
 use Rattle.pld_script.specs.declared.statement.Edit.TheVariants as says
 use Rattle.pld_script.specs.Edits.{is_of_words}
@@ -9,18 +9,28 @@ use Rattle.pld_draft.specs.declared.parts.EditFault.TheVariants.{Refused, NoMemo
 use Rattle.pld_draft.specs.declared.parts.EditRefusal.{EditRefusal}
 use Rattle.pld_draft.specs.Draft.{DraftState, words_of}
 use Rattle.pld_draft.specs.Edits.{Edited, edited}
+use Rattle.std.proofs.lemmas.Bool.Decides.{nat_tests}
 use Rattle.pld_driver.specs.Walk.{Answered}
+use Rattle.pld_driver.specs.Moments.{IsAnswer, Spends, Took}
+use Rattle.pld_driver.specs.declared.engine.Bench.{Bench}
+use Rattle.pld_script.specs.declared.statement.Statement.TheVariants as statement
+use Rattle.fabric_core.specs.declared.fabric.Record.{Record}
+use Rattle.pld_reply.specs.Refusals.{refused_reply}
 use Rattle.pld_reply.specs.declared.refusals.Refusal.TheVariants as refusal
-use Rattle.pld_reply.specs.Replies.{image_reply}
+use Rattle.net_switch.specs.declared.packet.Row.{Row}
+use Rattle.pld_reply.specs.declared.tables.PlacedPage.{PlacedPage}
+use Rattle.pld_reply.specs.Replies.{image_reply, built_reply}
+use Rattle.pld_reply.specs.Tables.{tables_reply}
 use Rattle.image_form.specs.Spelling.{Form, bytes_of}
-use Rattle.direct_world.specs.Plan.{no_image}
-use Rattle.pld_graph.specs.Design.{Design, place_of, is_input}
+use Rattle.pld_graph.specs.Design.{Design, place_of, is_input, open_port}
+use Rattle.pld_place.specs.Placing.{pages, placed}
+use Rattle.pld_link.specs.Rows.{rows}
 use Rattle.pld_graph.specs.Sound.{IsSound}
 use Rattle.pld_draft.specs.declared.parts.Source.{Source}
 use Rattle.pld_draft.specs.Draft.{IsKept, entry_ports, source_ports}
-use Rattle.pld_build.specs.Images.{image_of}
-use Rattle.pld_session.specs.Answers.{edits, edits_to, dumps, dumps_at, refuses}
-use Rattle.pld_session.specs.States.{State, IsBuild, images}
+use Rattle.pld_build.specs.Images.{image_of, distinct}
+use Rattle.pld_session.specs.Answers.{answer_to, builds, builds_if, builds_closed, edits, edits_to, dumps, dumps_at, dumps_tables, placed_pages, no_image, refuses, Fits}
+use Rattle.pld_session.specs.States.{State, BuildValue, IsBuild, images, tables}
 use Rattle.pld_session.specs.Steps.{Tells, TellsEdit, Makes}
 
 -- the answer to an edit
@@ -41,34 +51,49 @@ is_made (Ok new) = true
 is_made (Err why) = false
 
 -- an edit that is made where a test holds
-if_made : (b : Bool) (d made new : DraftState) (why : EditRefusal) → (if b then Ok made else Err why) ≡ Ok new → made.sources ≡ d.sources → new.sources ≡ d.sources
-if_made true d made new why e same = ap (λ (x : Edited). (known d x).sources) (sym e) ∙ same
-if_made false d made new why e same = absurd (true≢false (sym (ap is_made e)))
+if_made : (P : DraftState → Type 0) (b : Bool) (d made new : DraftState) (why : EditRefusal) → (if b then Ok made else Err why) ≡ Ok new → P made → P new
+if_made P true d made new why e h = subst P (ap (known d) e) h
+if_made P false d made new why e h = absurd (true≢false (sym (ap is_made e)))
 
-if_both : (b c : Bool) (d made new : DraftState) (why other : EditRefusal) → (if b then (if c then Ok made else Err why) else Err other) ≡ Ok new → made.sources ≡ d.sources → new.sources ≡ d.sources
-if_both true c d made new why other e same = if_made c d made new why e same
-if_both false c d made new why other e same = absurd (true≢false (sym (ap is_made e)))
+if_both : (P : DraftState → Type 0) (b c : Bool) (d made new : DraftState) (why other : EditRefusal) → (if b then (if c then Ok made else Err why) else Err other) ≡ Ok new → P made → P new
+if_both P true c d made new why other e h = if_made P c d made new why e h
+if_both P false c d made new why other e h = absurd (true≢false (sym (ap is_made e)))
 
--- other words of an input leave the operators' sources
-sources_stay : (edit : Edit) (d new : DraftState) → is_of_words edit ≡ true → edited edit d ≡ Ok new → new.sources ≡ d.sources
-sources_stay (says.Op name kind text) d new w e = absurd (true≢false (sym w))
-sources_stay (says.Replace name kind text) d new w e = absurd (true≢false (sym w))
-sources_stay (says.Remove name) d new w e = absurd (true≢false (sym w))
-sources_stay (says.Connect from to) d new w e = absurd (true≢false (sym w))
-sources_stay (says.Disconnect what) d new w e = absurd (true≢false (sym w))
-sources_stay (says.Input name to) d new w e = absurd (true≢false (sym w))
-sources_stay (says.Output from name) d new w e = absurd (true≢false (sym w))
-sources_stay (says.Pin name leaf) d new w e = absurd (true≢false (sym w))
-sources_stay (says.Unpin name) d new w e = absurd (true≢false (sym w))
-sources_stay (says.Pages depth) d new w e = absurd (true≢false (sym w))
-sources_stay (says.Feed name words) d new w e = if_both (is_input name d.design.channels) (nat_le (length (words_of name d.feeds) + length words) 65536) d _ new _ _ e refl
-sources_stay (says.Clear name) d new w e = if_made (is_input name d.design.channels) d _ new _ e refl
+-- the same design, with the same sources
+abbrev SameDesign : DraftState → DraftState → Type 0
+SameDesign d new = (new.sources ≡ d.sources) × (new.design ≡ d.design)
+
+-- other words of an input leave the design and its sources
+designs_stay : (edit : Edit) (d new : DraftState) → is_of_words edit ≡ true → edited edit d ≡ Ok new → SameDesign d new
+designs_stay (says.Op name kind text) d new w e = absurd (true≢false (sym w))
+designs_stay (says.Replace name kind text) d new w e = absurd (true≢false (sym w))
+designs_stay (says.Remove name) d new w e = absurd (true≢false (sym w))
+designs_stay (says.Connect from to) d new w e = absurd (true≢false (sym w))
+designs_stay (says.Disconnect what) d new w e = absurd (true≢false (sym w))
+designs_stay (says.Input name to) d new w e = absurd (true≢false (sym w))
+designs_stay (says.Output from name) d new w e = absurd (true≢false (sym w))
+designs_stay (says.Pin name leaf) d new w e = absurd (true≢false (sym w))
+designs_stay (says.Unpin name) d new w e = absurd (true≢false (sym w))
+designs_stay (says.Pages depth) d new w e = absurd (true≢false (sym w))
+designs_stay (says.Window window) d new w e = absurd (true≢false (sym w))
+designs_stay (says.Levels levels) d new w e = absurd (true≢false (sym w))
+designs_stay (says.Feed name words) d new w e = if_both (SameDesign d) (is_input name d.design.channels) (nat_le (length (words_of name d.feeds) + length words) 65536) d _ new _ _ e (refl, refl)
+designs_stay (says.Clear name) d new w e = if_made (SameDesign d) (is_input name d.design.channels) d _ new _ e (refl, refl)
 
 -- a build stays one behind an edit of an input's words
-pub build_stays : (edit : Edit) (d new : DraftState) (made : List Form) → is_of_words edit ≡ true → edited edit d ≡ Ok new → IsBuild d made → IsBuild new made
+pub build_stays : (edit : Edit) (d new : DraftState) (made : BuildValue) → is_of_words edit ≡ true → edited edit d ≡ Ok new → IsBuild d made → IsBuild new made
 build_stays edit d new made w e b =
-    let same = sources_stay edit d new w e in
-    record { same = b.same ∙ ap (map image_of) (sym same); an_operator = subst (λ ss. 1 ≤ length ss) (sym same) b.an_operator }
+    let same = designs_stay edit d new w e in
+    record {
+      images = b.images ∙ ap (map image_of) (sym same.0);
+      leaves = b.leaves ∙ ap placed (sym same.1);
+      tables = b.tables ∙ ap (λ g. rows g (placed g)) (sym same.1);
+      can = record {
+        an_operator = subst (λ ss. 1 ≤ length ss) (sym same.0) b.can.an_operator;
+        closed = subst (λ g. open_port g ≡ None) (sym same.1) b.can.closed;
+        enough = subst (λ ss. length ss ≤ pages new.design) (sym same.0) (subst (λ g. length d.sources ≤ pages g) (sym same.1) b.can.enough);
+      };
+    }
 
 any_default : {X : Type 0} (xs : List X) (k : ℕ) (x y : X) → k < length xs → slice_index_or xs k x ≡ slice_index_or xs k y
 any_default [] k x y l = absurd (omega (arith, l))
@@ -104,5 +129,60 @@ few_sources d design sources e f h s =
     omega (arith, ap length f, sources_many d h, few)
 
 -- there is an image for each operator
-pub images_many : (d : DraftState) (made : List Form) → IsKept d → IsBuild d made → length made ≡ length d.design.operators
-images_many d made k b = ap length b.same ∙ many image_of d.sources ∙ sources_many d k
+pub images_many : (d : DraftState) (made : BuildValue) → IsKept d → IsBuild d made → length made.images ≡ length d.design.operators
+images_many d made k b = ap length b.images ∙ many image_of d.sources ∙ sources_many d k
+
+-- the pages and rows are told
+pub tables_told : (st : State) (number : ℕ) (pages : List PlacedPage) (rows : List (Option Row)) (reply : List ℕ) → st.built ≡ true → pages ≡ placed_pages st.draft → rows ≡ tables st.draft
+    → reply ≡ tables_reply pages rows → Tells (dumps_tables st number) reply false st
+tables_told st number pages rows reply built same all said =
+    let A : Bool → Answered State = λ b. if b then record { reply = tables_reply (placed_pages st.draft) (tables st.draft); refused = false; permits = 0; next = st } else refuses st number refusal.NotBuilt in
+    subst (λ a. Tells a reply false st) (sym (ap A built)) (said ∙ ap (λ p. tables_reply p rows) same ∙ ap (tables_reply (placed_pages st.draft)) all, refl, refl)
+
+-- ---- builds
+
+above : (n m : ℕ) → m ≤ n → nat_lt n m ≡ false
+above n m h = grind (arith, nat_tests, h)
+
+under : (n m : ℕ) → n < m → nat_lt n m ≡ true
+under n m h = grind (arith, nat_tests, h)
+
+module _ (st : State) (number : ℕ) (some : nat_le (length st.draft.sources) 0 ≡ false) (closed : open_port st.draft.design ≡ None) where
+  abbrev done : Answered State
+  done = record {
+    reply = built_reply (length st.draft.sources) (distinct st.draft.sources);
+    refused = false;
+    permits = distinct st.draft.sources;
+    next = record st { built = true };
+  }
+
+  abbrev few : Answered State
+  few = refuses st number (refusal.TooFewPages (length st.draft.sources) (pages st.draft.design))
+
+  closed_is : builds st number ≡ builds_closed st number
+  closed_is = ap (λ b. if b then refuses st number refusal.Empty else builds_if st number (open_port st.draft.design)) some ∙ ap (builds_if st number) closed
+
+  done_is : length st.draft.sources ≤ pages st.draft.design → builds st number ≡ done
+  done_is enough = closed_is ∙ ap (λ b. if b then few else done) (above (pages st.draft.design) (length st.draft.sources) enough)
+
+  few_is : pages st.draft.design < length st.draft.sources → builds st number ≡ few
+  few_is lack = closed_is ∙ ap (λ b. if b then few else done) (under (pages st.draft.design) (length st.draft.sources) lack)
+
+  -- a build that isn't done has spent no more than its permits
+  pub build_spends : (old new : ℕ) → length st.draft.sources ≤ pages st.draft.design → old ≤ new → new ≤ old + distinct st.draft.sources → Spends old new (builds st number).permits
+  build_spends old new enough least most = subst (λ (a : Answered State). Spends old new a.permits) (sym (done_is enough)) (least, most)
+
+  -- there are more operators than pages
+  pub build_refused : (operators leaves : ℕ) (old new : Bench Record) (reply : List ℕ) (refused : Bool) → pages st.draft.design < length st.draft.sources → operators ≡ length st.draft.sources → leaves ≡ pages st.draft.design
+      → new.records.items ≡ old.records.items → new.permits ≡ old.permits → (refused ≡ true) × (reply ≡ refused_reply number (refusal.TooFewPages operators leaves))
+      → Took (answer_to st number (Some statement.Build)) (Fits st) old new reply refused st
+  build_refused operators leaves old new reply refused lack o p records permits told =
+      subst (λ (a : Answered State). IsAnswer a old.permits new.permits reply refused st × (new.records.items ≡ old.records.items)) (sym (few_is lack)) (
+        record {
+          says = told.1 ∙ ap (λ n. refused_reply number (refusal.TooFewPages n leaves)) o ∙ ap (λ n. refused_reply number (refusal.TooFewPages (length st.draft.sources) n)) p;
+          flag = told.0;
+          state = refl;
+          spent = omega (arith, permits);
+        },
+        records,
+      )

@@ -1,10 +1,13 @@
 -- What is said to a statement, and what the session holds then.
-use Rattle.std.specs.Prelude.{◌≡◌, ℕ, ◌+◌, ◌-◌, ◌^◌, Bool, true, false, ◌&&◌, nat_le, nat_lt, List, [], ◌∷◌, length, map, Option, Some, None, Result, Ok, Err, if◌then◌else◌, slice_index_or}
+use Rattle.std.specs.Prelude.{ℕ, ◌+◌, ◌==◌, Bool, true, false, ◌&&◌, nat_le, nat_lt, List, [], ◌∷◌, length, Option, Some, None, Ok, Err, if◌then◌else◌, slice_index_or}
 use Rattle.pld_base.specs.declared.event.End.{End}
-use Rattle.image_form.specs.Spelling.{bytes_of}
-use Rattle.direct_world.specs.Plan.{no_image}
+use Rattle.image_form.specs.Spelling.{Form, Soft, bytes_of}
+use Rattle.pld_graph.specs.declared.parts.OperatorEntry.{OperatorEntry}
+use Rattle.net_switch.specs.declared.packet.Row.{Row}
 use Rattle.pld_graph.specs.declared.parts.GraphFault.TheVariants.{UnknownOperator}
 use Rattle.pld_graph.specs.Design.{place_of, open_port}
+use Rattle.pld_place.specs.Placing.{pages}
+use Rattle.pld_draft.specs.declared.parts.Source.{Source}
 use Rattle.pld_draft.specs.declared.parts.EditRefusal.{EditRefusal}
 use Rattle.pld_draft.specs.declared.parts.EditRefusal.TheVariants as why
 use Rattle.pld_draft.specs.Draft.{DraftState}
@@ -13,16 +16,21 @@ use Rattle.pld_build.specs.Images.{distinct}
 use Rattle.pld_reply.specs.declared.refusals.Refusal.{Refusal}
 use Rattle.pld_reply.specs.declared.refusals.Refusal.TheVariants as refusal
 use Rattle.pld_reply.specs.Refusals.{refused_reply}
-use Rattle.pld_reply.specs.Replies.{ok_reply, built_reply, image_reply}
-use Rattle.direct_world.specs.declared.world.Record.{Record}
+use Rattle.pld_reply.specs.Replies.{ok_reply, built_reply, image_reply, stats_reply}
+use Rattle.pld_reply.specs.declared.tables.PlacedPage.{PlacedPage}
+use Rattle.pld_reply.specs.Tables.{tables_reply}
+use Rattle.fabric_core.specs.declared.counts.Counts.{Counts}
+use Rattle.fabric_core.specs.declared.fabric.Record.{Record}
+use Rattle.fabric_run.specs.Trees.{tree_setup}
+use Rattle.fabric_plan.specs.Standing.{standing_rows}
 use Rattle.pld_script.specs.declared.statement.Statement.{Statement}
 use Rattle.pld_script.specs.declared.statement.Statement.TheVariants as says
 use Rattle.pld_script.specs.declared.statement.Edit.{Edit}
 use Rattle.pld_script.specs.Edits.{is_of_words}
 use Rattle.pld_script.specs.Statements.{Placed}
 use Rattle.pld_driver.specs.Walk.{Answered, Step, Says, Runs}
-use Rattle.pld_session.specs.States.{State, images}
-use Rattle.pld_session.specs.Runs.{ran_reply, FitsRun}
+use Rattle.pld_session.specs.States.{State, images, leaves, tables}
+use Rattle.pld_session.specs.Runs.{ran_reply, end_of, counts_of, Plain, FitsRun}
 
 -- the statement is refused, and nothing changes
 abbrev pub refuses : State → ℕ → Refusal → Answered State
@@ -40,9 +48,13 @@ refusal_of (why.Graph f) = refusal.Graph f
 refusal_of (why.Source f) = refusal.Source f
 refusal_of why.TooManyWords = refusal.TooManyWords
 
+-- no rows stand in a tree of another depth
+abbrev pub rows_behind : State → DraftState → List (Option Row)
+rows_behind st draft = if draft.design.depth == st.draft.design.depth then st.standing else []
+
 -- an edit is accepted even where it changes nothing
 abbrev pub edits_to : State → ℕ → Bool → Edited → Answered State
-edits_to st number built (Ok draft) = accepts (record st { draft = draft; built = built })
+edits_to st number built (Ok draft) = accepts (record st { draft = draft; built = built; standing = rows_behind st draft })
 edits_to st number built (Err f) = refuses st number (refusal_of f)
 
 -- a build is wanted behind an edit of the design, and not behind one of an input's words
@@ -51,14 +63,10 @@ edits st number edit = edits_to st number (is_of_words edit && st.built) (edited
 
 -- ---- build: there is an operator, every port is in a channel, and there are pages enough
 
--- all leaves but the host's are pages
-abbrev pub pages : ℕ → ℕ
-pages depth = 2 ^ depth - 1
-
 abbrev pub builds_closed : State → ℕ → Answered State
 builds_closed st number =
-    if nat_lt (pages st.draft.design.depth) (length st.draft.sources)
-    then refuses st number (refusal.TooFewPages (length st.draft.sources) (pages st.draft.design.depth))
+    if nat_lt (pages st.draft.design) (length st.draft.sources)
+    then refuses st number (refusal.TooFewPages (length st.draft.sources) (pages st.draft.design))
     else record {
       reply = built_reply (length st.draft.sources) (distinct st.draft.sources);
       refused = false;
@@ -75,6 +83,10 @@ builds st number = if nat_le (length st.draft.sources) 0 then refuses st number 
 
 -- ---- dump image: there is a build, and the operator is there
 
+-- stands for an image that isn't there
+abbrev pub no_image : Form
+no_image = Soft 0 0 []
+
 abbrev pub dumps_at : State → ℕ → List ℕ → Option ℕ → Answered State
 dumps_at st number name None = refuses st number (refusal.Graph UnknownOperator)
 dumps_at st number name (Some k) =
@@ -83,13 +95,48 @@ dumps_at st number name (Some k) =
 abbrev pub dumps : State → ℕ → List ℕ → Answered State
 dumps st number name = if st.built then dumps_at st number name (place_of name st.draft.design) else refuses st number refusal.NotBuilt
 
+-- ---- dump tables: there is a build
+
+-- each operator with its leaf and its kind
+abbrev pub pages_from : List ℕ → List OperatorEntry → List Source → List PlacedPage
+pages_from [] operators sources = []
+pages_from (leaf ∷ leaves) [] sources = []
+pages_from (leaf ∷ leaves) (o ∷ operators) [] = []
+pages_from (leaf ∷ leaves) (o ∷ operators) (s ∷ sources) = record { leaf = record { 0 = leaf }; name = o.name; kind = s.kind } ∷ pages_from leaves operators sources
+
+abbrev pub placed_pages : DraftState → List PlacedPage
+placed_pages d = pages_from (leaves d) d.design.operators d.sources
+
+abbrev pub dumps_tables : State → ℕ → Answered State
+dumps_tables st number =
+    if st.built
+    then record { reply = tables_reply (placed_pages st.draft) (tables st.draft); refused = false; permits = 0; next = st }
+    else refuses st number refusal.NotBuilt
+
+-- ---- stats: a run was made
+
+abbrev pub tells_counts : State → ℕ → Option Counts → Answered State
+tells_counts st number None = refuses st number refusal.NotRun
+tells_counts st number (Some counts) = record { reply = stats_reply counts; refused = false; permits = 0; next = st }
+
+abbrev pub stats : State → ℕ → Answered State
+stats st number = tells_counts st number st.counted
+
 -- ---- run: there is a build, and fewer than 64 runs were made
 
 abbrev pub most_runs : ℕ
 most_runs = 64
 
+-- the rows that the leaves hold at the run's end stand for the next run
+abbrev pub after_run : State → Record → State
+after_run st run = record st {
+  standing = standing_rows (tree_setup run.plan) (end_of run);
+  runs = st.runs + 1;
+  counted = Some (counts_of run);
+}
+
 abbrev pub ran : State → Record → Answered State
-ran st run = record { reply = ran_reply st.draft run; refused = false; permits = 0; next = record st { runs = st.runs + 1 } }
+ran st run = record { reply = ran_reply st.draft run; refused = false; permits = 0; next = after_run st run }
 
 abbrev pub runs_built : State → ℕ → Step State Record
 runs_built st number = if nat_lt st.runs most_runs then Runs (ran st) else Says (refuses st number refusal.TooManyRuns)
@@ -109,11 +156,13 @@ answer_to st number (Some (says.Edit edit)) = Says (edits st number edit)
 answer_to st number (Some says.Build) = Says (builds st number)
 answer_to st number (Some says.Run) = runs st number
 answer_to st number (Some (says.DumpImage name)) = Says (dumps st number name)
+answer_to st number (Some says.DumpTables) = Says (dumps_tables st number)
+answer_to st number (Some says.Stats) = Says (stats st number)
 answer_to st number (Some says.Quit) = Says (says_nothing st)
 
 abbrev pub answer : State → Placed → Step State Record
 answer st placed = answer_to st placed.number placed.said
 
--- the record is one that a run from this state leaves
+-- the record is one that a run of one worker from this state leaves
 abbrev pub Fits : State → Record → Type 0
-Fits st run = FitsRun st.rounds st.draft run
+Fits st run = FitsRun Plain st run

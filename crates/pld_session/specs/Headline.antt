@@ -4,7 +4,7 @@ use Rattle.std.specs.Str.{bytes_eq}
 use Rattle.pld_driver.specs.declared.engine.Bench.{Bench}
 use Rattle.pld_driver.specs.declared.status.Status.{Status}
 use Rattle.pld_driver.specs.Outcome.{Moment, Outcome}
-use Rattle.direct_world.specs.declared.world.Record.{Record}
+use Rattle.fabric_core.specs.declared.fabric.Record.{Record}
 use Rattle.pld_session.specs.States.{at_first}
 use Rattle.pld_session.specs.Answers.{answer, Fits}
 

@@ -1,19 +1,24 @@
--- A run of a session's design: what is run, the reply, and what its record promises.
-use Rattle.std.specs.Prelude.{◌≡◌, ℕ, List, map, IsSome}
+-- A run of a session's design: what is run, the reply, and what its record is.
+use Rattle.std.specs.Prelude.{◌≡◌, ℕ, true, List, length, map, Option, None, IsSome}
 use Rattle.pld_base.specs.Process.{Process}
+use Rattle.net_switch.specs.declared.packet.Row.{Row}
+use Rattle.net_tree.specs.Links.{Links}
 use Rattle.pld_graph.specs.Design.{inputs, outputs}
 use Rattle.pld_link.specs.Seats.{operator_names}
 use Rattle.pld_draft.specs.Draft.{DraftState, words_of}
 use Rattle.pld_build.specs.Images.{meaning_of}
-use Rattle.direct_world.specs.declared.world.Record.{Record}
-use Rattle.direct_world.specs.Plan.{PlanValue}
-use Rattle.direct_world.specs.Laws.{network, IsDesign}
-use Rattle.direct_world.specs.Promise.{KeepsPromise}
-use Rattle.direct_world.specs.Replay.{replay, outcome, IsLegal, IsPlain}
-use Rattle.direct_world.specs.Reply.{reply, name_in}
-use Rattle.design_plan.specs.Plans.{plan_of}
-use Rattle.design_plan.specs.Wiring.{design_network}
-use Rattle.pld_session.specs.States.{images}
+use Rattle.fabric_run.specs.declared.entry.Entry.{Entry}
+use Rattle.fabric_run.specs.Plan.{PlanValue}
+use Rattle.fabric_run.specs.World.{State as RunState, changes}
+use Rattle.fabric_run.specs.Replay.{replay, outcome, IsLegal, IsPlain}
+use Rattle.fabric_run.specs.Reply.{reply, name_in}
+use Rattle.fabric_run.specs.Shown.{Shown, shown}
+use Rattle.fabric_run.specs.Trees.{tree_setup}
+use Rattle.fabric_core.specs.declared.counts.Counts.{Counts}
+use Rattle.fabric_core.specs.declared.fabric.Record.{Record}
+use Rattle.fabric_plan.specs.Plans.{Given, plan_of}
+use Rattle.fabric_plan.specs.Runnable.{IsRunnable, KeepMeaning}
+use Rattle.pld_session.specs.States.{State, images, leaves}
 
 -- what the operators mean, in the order of declaration
 abbrev pub meanings : DraftState → List Process
@@ -23,26 +28,63 @@ meanings d = map meaning_of d.sources
 abbrev pub feeds : DraftState → List (List ℕ)
 feeds d = map (λ name. words_of name d.feeds) (inputs d.design.channels)
 
--- what is run: the images of a full build, the rows of the design, the words of its inputs as they stand, and the allowed rounds
-abbrev pub plan_in : ℕ → DraftState → PlanValue
-plan_in rounds d = plan_of d.design (images d) (feeds d) rounds
+-- what a run is given: the full build, the rows that stand, the words of the inputs as they are, and the option's rounds
+abbrev pub given_in : State → Given
+given_in st = record {
+  leaves = leaves st.draft;
+  images = images st.draft;
+  before = st.standing;
+  feeds = feeds st.draft;
+  rounds = st.rounds;
+}
 
--- the reply to a run, read off its record
+abbrev pub plan_in : State → PlanValue
+plan_in st = plan_of st.draft.design (given_in st)
+
+-- the state at the end of a run, which its record stands for; what that shows, and what it has counted
+
+abbrev pub end_of : Record → RunState Links
+end_of run = replay (tree_setup run.plan) run.journal
+
+abbrev pub shown_by : Record → Shown
+shown_by run = shown (tree_setup run.plan) (end_of run)
+
+abbrev pub counts_of : Record → Counts
+counts_of run = record {
+  rounds = (end_of run).rounds;
+  packets = (end_of run).packets;
+  deflected = (end_of run).deflected;
+  configs = length (changes (tree_setup run.plan));
+}
+
+-- the reply to a run, read off what its record shows
 abbrev pub ran_reply : DraftState → Record → List ℕ
-ran_reply d run =
-    reply (name_in (operator_names d.design)) (name_in (outputs d.design.channels)) run.plan (replay run.plan run.journal)
+ran_reply d run = reply (name_in (operator_names d.design)) (name_in (outputs d.design.channels)) (length run.plan.pages) run.plan.outs (shown_by run)
 
--- The record of a run fits the design, where the session's runs may make so many rounds.
-pub record FitsRun (rounds : ℕ) (d : DraftState) (run : Record) : Type 0 where
-  pub plan : run.plan ≡ plan_in rounds d
-  -- each entry is legal in the state after those before it, and the last state is the first that is over
-  pub legal : IsLegal run.plan run.journal
-  pub over : IsSome (outcome run.plan (replay run.plan run.journal))
-  -- the entries are those of one worker, who takes the pages in ascending order
-  pub plain : IsPlain run.plan run.journal
-  -- the plan is sound, and its images do what the operators mean
-  pub design : IsDesign run.plan (meanings d)
-  -- its network is that of the design: what its operators mean, its channels, and the words of its inputs
-  pub network : network run.plan (meanings d) ≡ design_network d.design (meanings d) (feeds d)
-  -- its words are those of the network's Kahn streams
-  pub promise : KeepsPromise run.plan (meanings d) run.journal
+-- In which order the entries of a journal stand: those of one worker, who takes the pages in ascending order of their leaves; or any order.
+pub data Order : Type 0 where
+  Plain : Order
+  Any : Order
+
+abbrev pub IsOrdered : Order → PlanValue → List Entry → Type 0
+IsOrdered Plain plan journal = IsPlain (tree_setup plan) journal
+IsOrdered Any plan journal = Unit {0}
+
+-- The record of a run fits the session's state: its plan is that of the design as it stands, which can be run and whose images do what its
+-- operators mean; each entry of its journal is legal in the state after those before it, the last state is the first that is over, and the entries
+-- stand in this order.
+pub record FitsRun (order : Order) (st : State) (run : Record) : Type 0 where
+  pub plan : run.plan ≡ plan_in st
+  pub runnable : IsRunnable st.draft.design (given_in st)
+  pub means : KeepMeaning (images st.draft) (meanings st.draft)
+  pub legal : IsLegal (tree_setup run.plan) run.journal
+  pub over : IsSome (outcome (tree_setup run.plan) (end_of run))
+  pub ordered : IsOrdered order run.plan run.journal
+
+-- a state that holds this, of which it is asked what its runs are
+abbrev pub holding : ℕ → DraftState → List (Option Row) → State
+holding rounds d standing = record { rounds = rounds; draft = d; built = true; standing = standing; runs = 0; counted = None }
+
+-- the record of a run of one worker fits a state that holds this
+abbrev pub FitsNow : ℕ → DraftState → List (Option Row) → Record → Type 0
+FitsNow rounds d standing run = FitsRun Plain (holding rounds d standing) run

@@ -8,7 +8,7 @@ use Rattle.pld_draft.specs.Edits.{edited}
 use Rattle.pld_reply.specs.Refusals.{refused_reply}
 use Rattle.pld_reply.specs.Replies.{ok_reply}
 use Rattle.pld_driver.specs.Walk.{Answered}
-use Rattle.pld_session.specs.Answers.{refusal_of}
+use Rattle.pld_session.specs.Answers.{refusal_of, rows_behind}
 use Rattle.pld_session.specs.States.{State}
 
 -- This answer was given, whatever it spends.
@@ -23,6 +23,6 @@ TellsEdit number (Err NoMemory) reply refused = ⊥
 
 -- What an edit that ended so has made of the session.
 abbrev pub Makes : {X : Type 0} → Result X EditFault → Edit → State → State → Type 0
-Makes (Ok _) edit old new = (edited edit old.draft ≡ Ok new.draft) × (new ≡ record old { draft = new.draft; built = is_of_words edit && old.built })
+Makes (Ok _) edit old new = (edited edit old.draft ≡ Ok new.draft) × (new ≡ record old { draft = new.draft; built = is_of_words edit && old.built; standing = rows_behind old new.draft })
 Makes (Err (Refused why)) edit old new = (edited edit old.draft ≡ Err why) × (new ≡ old)
 Makes (Err NoMemory) edit old new = new ≡ old

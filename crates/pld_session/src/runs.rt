@@ -6,18 +6,23 @@ ghost use Rattle.pld_base.specs.Words.{IsWord};
 ghost use Rattle.pld_graph.specs.Design.{outputs as outputs_of};
 ghost use Rattle.pld_draft.specs.Draft.{words_of};
 ghost use Rattle.pld_link.specs.Seats.{operator_names as names_of};
-ghost use Rattle.design_plan.specs.Plans.{allowed as allowed_rounds};
+ghost use Rattle.fabric_plan.specs.Plans.{allowed as allowed_rounds};
+ghost use Rattle.fabric_plan.specs.Standing.{AreStanding};
 ghost use Rattle.pld_reply.specs.Sizes.{run_room};
-ghost use Rattle.pld_session.specs.States.{images as images_of};
-ghost use Rattle.pld_session.specs.Runs.{feeds as feeds_of, FitsRun};
+ghost use Rattle.fabric_plan.specs.Runnable.{IsRunnable, KeepMeaning};
+ghost use Rattle.pld_session.specs.States.{IsBuild, images as images_of};
+ghost use Rattle.pld_session.specs.Runs.{feeds as feeds_of, meanings, given_in, holding, FitsNow};
 
-use design_plan::{allowed, plan, plans_are_designs};
-use direct_world::{Feed, World, plain_is_legal, run_plain, runs_keep_their_promise};
+use crate::build::Build;
+use fabric_core::{Fabric, Feed, run_plain};
+use fabric_plan::{allowed, plan, plans_are_designs};
+use net_switch::Row;
 use pld_base::{Name, NoMemory};
-use pld_build::{images_keep_the_meaning, sources_are_processes};
+use pld_build::{images_are_forms, images_keep_the_meaning, sources_are_processes};
 use pld_draft::Draft;
 use pld_graph::Graph;
 use pld_image::{Image, cores_are_processes};
+use pld_place::operators_have_leaves;
 use std::alloc::Global;
 
 /// The names of the operators, in the order of declaration.
@@ -88,6 +93,23 @@ fn copies(alloc: Global, images: &[Image]) -> Result<Vec<Image>, NoMemory>
     Ok(copies)
 }
 
+/// Equal rows.
+fn copied_rows(alloc: Global, rows: &[Option<Row>]) -> Result<Vec<Option<Row>>, NoMemory>
+    ensures { IfOk result (λ copied. copied.items ≡ rows.now) }
+{
+    Ok(Vec::from_slice(alloc, rows)?)
+}
+
+/// The slots of all 64 leaves.
+const ALL_SLOTS: usize = 1024;
+
+/// Room for the rows that a run leaves.
+pub fn rows_room(alloc: Global) -> Result<Vec<Option<Row>>, NoMemory>
+    ensures { IfOk result (λ rows. length rows.items ≡ 1024) }
+{
+    Ok(vec![in alloc; None; ALL_SLOTS]?)
+}
+
 /// Room for the reply to a run of this design: how it ended, a line for each operator and one for each output, which has
 /// at most a word a round.
 pub fn reply_room(graph: &Graph, rounds: u64) -> usize
@@ -100,31 +122,57 @@ pub fn reply_room(graph: &Graph, rounds: u64) -> usize
     27 + 47 * operators + (58 + 11 * rounds) * graph.outputs()
 }
 
-/// Runs the images of a design with the words of its inputs; a run may make so many rounds. All memory of the run is taken
-/// before its first entry.
+/// A design that was built can be run, and its images do what its operators mean.
+fn built_designs_run(
+    rounds: u64,
+    draft: &Draft,
+    build: &Build,
+    standing: &[Option<Row>],
+    feeds: &[Feed],
+)
+    requires some { 1 ≤ rounds }
+    requires built { IsBuild draft.now build.now }
+    requires standing { AreStanding draft.now.design.depth standing.now }
+    requires feeds { feeds.now ≡ feeds_of draft.now }
+    requires words { All (All IsWord) feeds.now }
+    ensures runnable { IsRunnable draft.now.design (given_in (holding rounds draft.now standing.now)) }
+    ensures means { KeepMeaning (images_of draft.now) (meanings draft.now) }
+{
+    images_keep_the_meaning();
+    images_are_forms();
+    cores_are_processes();
+    operators_have_leaves();
+    sources_are_processes(draft.sources());
+    let graph = draft.graph();
+    let _operators = graph.operators();
+}
+
+/// Runs a design as it was built, with the words of its inputs, where these rows stand at the leaves; a run may make so many
+/// rounds. All memory of the run is taken before its first entry.
 pub fn run_design(
     alloc: Global,
     rounds: u64,
     draft: &Draft,
-    images: &[Image],
-) -> Result<World, NoMemory>
+    build: &Build,
+    standing: &[Option<Row>],
+) -> Result<Fabric, NoMemory>
     requires some { 1 ≤ rounds }
     requires most { rounds ≤ 1000000 }
-    requires built { images.now ≡ images_of draft.now }
-    requires an_operator { 1 ≤ length draft.now.sources }
-    ensures { IfOk result (λ world. FitsRun rounds draft.now (record { plan = world.plan; journal = world.journal })) }
+    requires built { IsBuild draft.now build.now }
+    requires standing { AreStanding draft.now.design.depth standing.now }
+    ensures fits { IfOk result (λ fabric. FitsNow rounds draft.now standing.now (record { plan = fabric.plan; journal = fabric.journal })) }
+    ensures pages { IfOk result (λ fabric. length fabric.plan.pages ≡ length draft.now.design.operators) }
 {
-    images_keep_the_meaning();
-    cores_are_processes();
-    plain_is_legal();
-    runs_keep_their_promise();
     plans_are_designs();
-    sources_are_processes(draft.sources());
     let graph = draft.graph();
-    let _operators = graph.operators();
-    let copies = copies(alloc, images)?;
+    let images = copies(alloc, &build.images)?;
+    let before = copied_rows(alloc, standing)?;
+    let tables = copied_rows(alloc, &build.tables)?;
     let feeds = feeds(alloc, draft)?;
-    let plan = plan(alloc, graph, copies, feeds, rounds)?;
-    let world = World::prepare(alloc, plan)?;
-    Ok(run_plain(world))
+    built_designs_run(rounds, draft, build, standing, &feeds);
+    let leaves = build.placement.leaf_of();
+    let plan = plan(alloc, graph, leaves, images, before, tables, feeds, rounds)?;
+    let fabric = run_plain(Fabric::prepare(alloc, plan)?);
+    fabric.is_legal();
+    Ok(fabric)
 }

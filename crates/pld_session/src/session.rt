@@ -1,22 +1,27 @@
 //! What a session holds, and its answers to statements.
 
-ghost use Rattle.std.specs.Prelude.{◌≡◌, ◌≤◌, ◌^◌, ◌+◌, ◌-◌, ◌<◌, [], Some, None, length, IfOk, OnErr};
-ghost use Rattle.pld_graph.specs.Design.{open_port};
+ghost use Rattle.std.specs.Prelude.{◌≡◌, ◌≤◌, ◌^◌, ◌+◌, ◌<◌, [], Some, None, IfOk, OnErr};
 ghost use Rattle.pld_session.specs.States.{at_first};
-ghost use Rattle.pld_session.specs.Answers.{answer_to, edits, dumps, pages as pages_of, Fits};
+ghost use Rattle.pld_session.specs.Answers.{answer_to, edits, dumps, dumps_tables, stats as told_counts, Fits};
+ghost use Rattle.pld_reply.specs.declared.refusals.Refusal.TheVariants as refusal;
 ghost use Rattle.pld_session.specs.Steps.{Makes, Tells};
 ghost use Rattle.pld_driver.specs.Moments.{Took, Broke};
 
+use crate::build::{Build, build_design, placed_pages};
 use crate::edits::{answer_edit, refuse};
-use crate::runs::{operator_names, output_names, reply_room, run_design};
-use direct_world::Record;
-use pld_base::{Name, NoMemory};
-use pld_build::{build, pairs_are_few};
+use crate::runs::{operator_names, output_names, reply_room, rows_room, run_design};
+use fabric_core::{Counts, Record};
+use fabric_plan::leave_rows;
+use net_switch::Row;
+use pld_base::{Name, NoMemory, Refused};
+use pld_build::pairs_are_few;
 use pld_draft::{Draft, EditFault};
 use pld_driver::{Bench, Engine};
 use pld_graph::GraphFault;
-use pld_image::{Image, image_bytes};
-use pld_reply::{Refusal, put_built, put_image, put_run};
+use pld_image::image_bytes;
+use pld_link::rows_stand_in_order;
+use pld_place::{TooFewPages, operators_have_leaves};
+use pld_reply::{Refusal, put_built, put_image, put_run, put_stats, put_tables};
 use pld_script::{Edit, Statement};
 use std::alloc::Global;
 use std::marker::Model;
@@ -27,19 +32,24 @@ const DEPTH: u8 = 4;
 /// The most runs of a session.
 const RUNS: u64 = 64;
 
-/// A session: its design as it stands, the images of the last build, and how many runs it has made.
+/// A session: its design as it stands, its last build, the rows that stand at the leaves, how many runs it has made, and what
+/// the last one counted.
 #[derive(Drop)]
 pub struct Session {
     rounds: u64,
     draft: Draft,
-    /// The operators' images, in the order of declaration; none where no build succeeded since the last edit.
-    images: Option<Vec<Image>>,
+    /// None where no build succeeded since the last edit.
+    build: Option<Build>,
+    /// The rows that the last run left; none before the first run, and where the tree has another depth since.
+    standing: Vec<Option<Row>>,
     runs: u64,
+    counted: Option<Counts>,
 }
 
 impl Model for Session {
     ghost use Rattle.std.specs.Prelude.{◌≤◌, IfSome, is_some};
     ghost use Rattle.pld_session.specs.States.{State, IsBuild};
+    ghost use Rattle.fabric_plan.specs.Standing.{AreStanding};
 
     ghost Value = { State };
 
@@ -49,9 +59,9 @@ impl Model for Session {
 
     ghost coded = { Prim.hlevel (codes, stmt.the_row.coded, expr.the_row.coded) };
 
-    ghost view = { λ s. record { rounds = s.rounds; draft = s.draft; built = is_some s.images; runs = s.runs } };
+    ghost view = { λ s. record { rounds = s.rounds; draft = s.draft; built = is_some s.build; standing = s.standing.items; runs = s.runs; counted = s.counted } };
 
-    ghost invariant = { λ s. (1 ≤ s.rounds) × (s.rounds ≤ 1000000) × (s.runs ≤ 64) × IfSome s.images (λ images. IsBuild s.draft images.items) };
+    ghost invariant = { λ s. (1 ≤ s.rounds) × (s.rounds ≤ 1000000) × (s.runs ≤ 64) × IfSome s.build (λ build. IsBuild s.draft build) × AreStanding s.draft.design.depth s.standing.items };
 }
 
 impl Session {
@@ -64,22 +74,27 @@ impl Session {
         Session {
             rounds,
             draft: Draft::new(alloc, DEPTH),
-            images: None,
+            build: None,
+            standing: Vec::new(alloc),
             runs: 0,
+            counted: None,
         }
     }
 
-    /// Makes an edit. Behind one of the design there is no build.
+    /// Makes an edit. Behind one of the design there is no build, and no rows stand in a tree of another depth.
     #[tactic(auto, using(crate::proofs::Told::build_stays))]
     fn make(&mut self, alloc: Global, edit: Edit) -> Result<(), EditFault>
         ensures { Makes result edit self.old self.new }
     {
         let of_words = edit.is_of_words();
+        let depth = self.draft.graph().depth();
         self.draft.edit(alloc, edit)?;
-        if of_words {
-            return Ok(());
+        if self.draft.graph().depth() != depth {
+            self.standing.clear();
         }
-        self.images = None;
+        if !of_words {
+            self.build = None;
+        }
         Ok(())
     }
 
@@ -121,15 +136,15 @@ impl Session {
             return refuse(number, Refusal::OpenPort(open), reply);
         }
         let _operators = graph.operators();
-        let operators = sources.len() as u64;
-        let pages = pages_in(graph.depth());
-        if pages < operators {
-            return refuse(number, Refusal::TooFewPages { operators, pages }, reply);
+        match build_design(alloc, &mut bench.permits, &self.draft) {
+            Err(Refused::NoMemory) => Err(NoMemory),
+            Err(Refused::Fault(few)) => refuse(number, too_few(few), reply),
+            Ok((build, compiled)) => {
+                put_built(reply, sources.len() as u64, compiled)?;
+                self.build = Some(build);
+                Ok(false)
+            }
         }
-        let built = build(alloc, &mut bench.permits, sources)?;
-        put_built(reply, operators, built.compiled)?;
-        self.images = Some(built.images);
-        Ok(false)
     }
 
     /// Tells the bytes of an operator's image.
@@ -143,20 +158,50 @@ impl Session {
         requires { reply.old.items ≡ [] }
         ensures { IfOk result (λ refused. Tells (dumps self.now number name) reply.new.items refused self.now) }
     {
-        let Some(images) = &self.images else {
+        let Some(build) = &self.build else {
             return refuse(number, Refusal::NotBuilt, reply);
         };
         let _sources = self.draft.sources();
         let Some(k) = self.draft.graph().place_of(&name) else {
             return refuse(number, Refusal::Graph(GraphFault::UnknownOperator), reply);
         };
-        let bytes = image_bytes(alloc, &images[k])?;
+        let bytes = image_bytes(alloc, &build.images[k])?;
         put_image(reply, &name, bytes.as_slice())?;
         Ok(false)
     }
 
-    /// Runs the design as it was built, with the words of its inputs as they stand. Room for the reply and for the record is
-    /// taken before the run.
+    /// Tells the pages on which the operators stand, and the rows of all leaves.
+    fn dump_tables(&self, alloc: Global, number: u64, reply: &mut Vec<u8>) -> Result<bool, NoMemory>
+        requires { reply.old.items ≡ [] }
+        ensures { IfOk result (λ refused. Tells (dumps_tables self.now number) reply.new.items refused self.now) }
+    {
+        let Some(build) = &self.build else {
+            return refuse(number, Refusal::NotBuilt, reply);
+        };
+        rows_stand_in_order();
+        operators_have_leaves();
+        let graph = self.draft.graph();
+        let _operators = graph.operators();
+        let leaves = build.placement.leaf_of();
+        let pages = placed_pages(alloc, graph, self.draft.sources(), leaves)?;
+        put_tables(reply, &pages, &build.tables)?;
+        Ok(false)
+    }
+
+    /// Tells what the last run counted.
+    fn stats(&self, number: u64, reply: &mut Vec<u8>) -> Result<bool, NoMemory>
+        requires { reply.old.items ≡ [] }
+        ensures { IfOk result (λ refused. Tells (told_counts self.now number) reply.new.items refused self.now) }
+    {
+        let Some(counts) = self.counted else {
+            return refuse(number, Refusal::NotRun, reply);
+        };
+        put_stats(reply, counts)?;
+        Ok(false)
+    }
+
+    /// Runs the design as it was built, with the words of its inputs as they stand. Room for the reply, for the record and for
+    /// the rows that the run leaves is taken before the run.
     fn run(
         &mut self,
         alloc: Global,
@@ -169,7 +214,7 @@ impl Session {
         ensures err { OnErr result (Broke (answer_to self.old number (Some Statement.Run)) (Fits self.old) bench.old bench.new) }
         ensures few { bench.new.permits ≤ bench.old.permits + 64 }
     {
-        let Some(images) = &self.images else {
+        let Some(build) = &self.build else {
             return refuse(number, Refusal::NotBuilt, reply);
         };
         if self.runs >= RUNS {
@@ -181,9 +226,13 @@ impl Session {
         let outputs = output_names(alloc, graph)?;
         bench.records.reserve(1)?;
         reply.reserve(reply_room(graph, self.rounds))?;
-        let world = run_design(alloc, self.rounds, &self.draft, images.as_slice())?;
-        put_run(reply, names.as_slice(), outputs.as_slice(), &world)?;
-        bench.records.push(world.finish())?;
+        let mut left = rows_room(alloc)?;
+        let fabric = run_design(alloc, self.rounds, &self.draft, build, &self.standing)?;
+        put_run(reply, names.as_slice(), outputs.as_slice(), &fabric)?;
+        leave_rows(&fabric, &mut left);
+        self.standing = left;
+        self.counted = Some(fabric.counts());
+        bench.records.push(fabric.finish())?;
         self.runs += 1;
         Ok(false)
     }
@@ -208,17 +257,21 @@ impl Session {
             Statement::Build => self.build(alloc, number, bench, reply),
             Statement::Run => self.run(alloc, number, bench, reply),
             Statement::DumpImage(name) => self.dump_image(alloc, number, name, reply),
+            Statement::DumpTables => self.dump_tables(alloc, number, reply),
+            Statement::Stats => self.stats(number, reply),
             Statement::Quit => Ok(false),
         }
     }
 }
 
-/// How many leaves of a tree of this depth are pages: all but the host's.
-fn pages_in(depth: u8) -> u64
-    requires { depth ≤ 6 }
-    ensures { result ≡ pages_of depth }
+// That there are more operators than pages.
+fn too_few(few: TooFewPages) -> Refusal
+    ensures { result ≡ refusal.TooFewPages few.operators few.pages }
 {
-    (1u64 << depth) - 1
+    Refusal::TooFewPages {
+        operators: u64::from(few.operators),
+        pages: u64::from(few.pages),
+    }
 }
 
 impl Engine for Session {

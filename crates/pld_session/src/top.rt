@@ -5,7 +5,7 @@ ghost use Rattle.pld_driver.specs.Outcome.{moment_of};
 ghost use Rattle.pld_session.specs.Headline.{IsFresh, IsInRange, SessionEnds, NothingHappened, is_command as is_command_of, default_rounds};
 
 use crate::session::Session;
-use direct_world::Record;
+use fabric_core::Record;
 use pld_driver::{Status, run};
 use pld_io::{Sink, Source};
 use std::alloc::Global;

@@ -1,4 +1,4 @@
-//! A session with a bad line. What `pld` puts on standard error, here nothing, stands behind the replies.
+//! Sessions of many designs in one text, some of whose statements are refused. What `pld` puts on standard error, here nothing, stands behind the replies.
 #![tactic(auto)]
 
 use pld_io::{ReadSource, WriteSink};

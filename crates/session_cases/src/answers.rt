@@ -222,42 +222,47 @@ fn answers_each_statement(rt: HostRuntime) -> Result<(), Fail> {
     Ok(())
 }
 
-/// A program of 600 instructions between two writes. A page makes a turn of at most 256 steps in a round, and one
-/// write: the first word comes out in round 1, the second in round 4, and the end is a turn of its own.
+/// The words of three reads and writes come out in rounds 12, 14 and 16, and two rounds later nothing is under way. A run that comes to
+/// rest in its last allowed round is done.
 #[test]
 fn spends_its_rounds(rt: HostRuntime) -> Result<(), Fail> {
-    let mut text = b"op f soft\nvoid f(in a, out b) { int32_t x; write(b, 7);\n".to_vec(
-        rt.alloc(),
-    )?;
-    for _ in 0..100 {
-        text.extend_from_slice(b"x = x + 1;\n")?;
-    }
-    text.extend_from_slice(
-        b"write(b, x); }\nend\ninput s f.i0\noutput f.o0 y\nfeed s\nbuild\nrun\n",
-    )?;
     let rows: [(u64, &[u8]); 4] = [
         (
-            1,
-            b"ok\nok\nok\nok\nbuilt 1 compiled 1\nspent 1\nout y 1 7\n",
+            11,
+            b"ok\nok\nok\nok\nbuilt 1 compiled 1\nspent 11\nout dst 0\n",
         ),
         (
-            3,
-            b"ok\nok\nok\nok\nbuilt 1 compiled 1\nspent 3\nout y 1 7\n",
+            14,
+            b"ok\nok\nok\nok\nbuilt 1 compiled 1\nspent 14\nout dst 2 6 7\n",
         ),
         (
-            4,
-            b"ok\nok\nok\nok\nbuilt 1 compiled 1\nspent 4\nout y 2 7 100\n",
+            17,
+            b"ok\nok\nok\nok\nbuilt 1 compiled 1\nspent 17\nout dst 3 6 7 0\n",
         ),
-        (
-            5,
-            b"ok\nok\nok\nok\nbuilt 1 compiled 1\ndone\nout y 2 7 100\n",
-        ),
+        (18, ADDED),
     ];
     for (rounds, want) in rows {
-        let (status, sink, _) = run(&rt, text.as_slice(), rounds, 4096, (0, 0))?;
+        let (status, sink, _) = run(&rt, ADD_ONE, rounds, 4096, (0, 0))?;
         assert_eq!(rt; status, Status::Fine);
         assert_eq!(rt; sink.bytes(), want);
     }
+    Ok(())
+}
+
+/// As many rounds as are enough by the rule: with M links, D = 2 d + 2 and Q = M D + 1 they are 42 Q, for the 12 events, two entries and
+/// one page of this run; in a tree of depth 4 with one upward link a switch M = 60, and in one of depth 3 with two M = 48.
+#[test]
+fn enough_rounds_are_enough(rt: HostRuntime) -> Result<(), Fail> {
+    let (status, sink, _) = run(&rt, ADD_ONE, 25_242, 4096, (0, 0))?;
+    assert_eq!(rt; status, Status::Fine);
+    assert_eq!(rt; sink.bytes(), ADDED);
+    let mut text = b"pages 3\npattern pp\n".to_vec(rt.alloc())?;
+    text.extend_from_slice(ADD_ONE)?;
+    let mut want = b"ok\nok\n".to_vec(rt.alloc())?;
+    want.extend_from_slice(ADDED)?;
+    let (status, sink, _) = run(&rt, text.as_slice(), 16_170, 4096, (0, 0))?;
+    assert_eq!(rt; status, Status::Fine);
+    assert_eq!(rt; sink.bytes(), want.as_slice());
     Ok(())
 }
 
@@ -285,8 +290,8 @@ fn makes_all_allowed_rounds(rt: HostRuntime) -> Result<(), Fail> {
         }
     }
     assert_eq!(rt; nets, 50u64);
-    // A Take and a Give stand before each Net.
-    assert_eq!(rt; record.journal.len(), 150usize);
+    // The two entries of configuration are accepted in rounds 3 and 4, and from then on a Take and a Give stand before each Net.
+    assert_eq!(rt; record.journal.len(), 142usize);
     assert_eq!(rt; bench.records.len(), 0usize);
     Ok(())
 }

@@ -1,4 +1,4 @@
-use Rattle.std.proofs.Common.{◌≡◌, ◌<◌, ◌++◌, ◌∷◌, [], length, sym, ap, ◌∙◌, rules}
+use Rattle.std.proofs.Common.{◌<◌, length, sym, ap, ◌∙◌, rules}
 use Rattle.pld_graph.specs.Design.{outputs}
 use Rattle.pld_session.proofs.Gathered.{got_more, is_there}
 use Rattle.pld_session.proofs.runs.output_names.Goals.{in-Some+in_ok-push, in_default}

@@ -1,27 +1,56 @@
-use Rattle.std.proofs.Common.{subst, rules}
-use Rattle.std.specs.List.{All}
-use Rattle.pld_base.specs.Words.{IsWord}
-use Rattle.pld_session.proofs.Running.{Laws, IsReady, fits}
+use Rattle.std.proofs.Common.{◌≡◌, refl, sym, ap, ◌∙◌, subst, rules, length}
+use Rattle.pld_link.specs.Seats.{numbers}
+use Rattle.fabric_run.specs.Plan.{PlanValue}
+use Rattle.fabric_core.specs.Runs.{RunValue}
+use Rattle.fabric_plan.specs.Plans.{Given, plan_of}
+use Rattle.fabric_plan.specs.Runnable.{IsRunnable}
+use Rattle.pld_session.specs.States.{BuildValue, images, leaves}
+use Rattle.pld_session.specs.Runs.{given_in, holding, plan_in, meanings}
+use Rattle.pld_session.proofs.Running.{same_given}
 use Rattle.pld_session.proofs.runs.run_design.Goals as goal
 
-pub returns : goal.returns
-returns c =
-    let laws : Laws = record {
-      meaning = c.images_keep_the_meaning.ensures.realises;
-      words = c.images_keep_the_meaning.ensures.writes_words;
-      cores = c.cores_are_processes.ensures;
-      legal = c.plain_is_legal.ensures;
-      keep = c.runs_keep_their_promise.ensures;
-      design = c.plans_are_designs.ensures.design;
-      network = c.plans_are_designs.ensures.network;
+pub plan-requires-clause-runnable : goal.plan-requires-clause-runnable
+plan-requires-clause-runnable c =
+    let d = c.args.draft.now in
+    let given : Given = record {
+      leaves = numbers c.leaf_of-leaves.result.now;
+      images = c.in_ok-images.images.items;
+      before = c.in_ok-before.before.items;
+      feeds = c.in_ok-feeds.feeds.items;
+      rounds = c.args.rounds;
     } in
-    let ready : IsReady c.args.rounds c.args.draft.now = record {
-      a_round = c.requires.some;
-      kept = c.sources.ensures.kept;
-      design = search rules;
-      an_operator = c.requires.an_operator;
-      processes = search rules;
-      sound = search rules;
-      words = subst (λ x. All (All IsWord) x) c.in_ok-feeds.ensures.value c.in_ok-feeds.ensures.words;
+    let l : leaves d ≡ numbers c.leaf_of-leaves.result.now = sym (c.leaf_of-leaves.ensures ∙ ap (λ (b : BuildValue). b.leaves) c.build.view_is ∙ c.requires.built.leaves) in
+    let i : images d ≡ c.in_ok-images.images.items = sym (c.in_ok-images.ensures ∙ c.deref.ensures.value ∙ ap (λ (b : BuildValue). b.images) c.build.view_is ∙ c.requires.built.images) in
+    let same = same_given (given_in (holding c.args.rounds d c.args.standing.now)) given l i (sym c.in_ok-before.ensures) (sym c.in_ok-feeds.ensures.value) refl in
+    subst (λ g. IsRunnable g given) (sym c.graph-graph.ensures) (subst (λ x. IsRunnable d.design x) same c.built_designs_run.ensures.runnable)
+
+pub returns-clause-fits : goal.returns-clause-fits
+returns-clause-fits c =
+    let d = c.args.draft.now in
+    let given : Given = record {
+      leaves = numbers c.leaf_of-leaves.result.now;
+      images = c.in_ok-images.images.items;
+      before = c.in_ok-before.before.items;
+      feeds = c.in_ok-feeds.feeds.items;
+      rounds = c.args.rounds;
     } in
-    fits laws c.args.rounds c.args.draft.now c.run_plain.result ready (search rules) (search rules) (search rules)
+    let l : leaves d ≡ numbers c.leaf_of-leaves.result.now = sym (c.leaf_of-leaves.ensures ∙ ap (λ (b : BuildValue). b.leaves) c.build.view_is ∙ c.requires.built.leaves) in
+    let i : images d ≡ c.in_ok-images.images.items = sym (c.in_ok-images.ensures ∙ c.deref.ensures.value ∙ ap (λ (b : BuildValue). b.images) c.build.view_is ∙ c.requires.built.images) in
+    let same = same_given (given_in (holding c.args.rounds d c.args.standing.now)) given l i (sym c.in_ok-before.ensures) (sym c.in_ok-feeds.ensures.value) refl in
+    let planned : c.in_ok-plan.plan ≡ plan_in (holding c.args.rounds d c.args.standing.now) = c.in_ok-plan.ensures ∙ ap (λ g. plan_of g given) c.graph-graph.ensures ∙ ap (plan_of d.design) (sym same) in
+    let is : c.run_plain-fabric.result.plan ≡ plan_in (holding c.args.rounds d c.args.standing.now) = c.run_plain-fabric.ensures.plan ∙ ap (λ (r : RunValue). r.plan) c.in_ok-prepare.ensures ∙ planned in
+    record {
+      plan = is;
+      runnable = c.built_designs_run.ensures.runnable;
+      means = c.built_designs_run.ensures.means;
+      legal = search rules;
+      over = search rules;
+      ordered = search rules;
+    }
+
+pub returns-clause-pages : goal.returns-clause-pages
+returns-clause-pages c =
+    let st = holding c.args.rounds c.args.draft.now c.args.standing.now in
+    let fit = returns-clause-fits c in
+    let design = c.plans_are_designs.ensures.design c.args.draft.now.design (given_in st) (meanings c.args.draft.now) fit.runnable fit.means in
+    ap (λ (p : PlanValue). length p.pages) fit.plan ∙ sym design.as_many ∙ fit.means.many ∙ fit.runnable.images.many
