@@ -7,6 +7,3 @@ mod sequence;
 
 pub use compile::compile_hard;
 pub use laws::{tables_are_in_range, tables_keep_the_meaning};
-
-#[cfg(test)]
-mod tests;
