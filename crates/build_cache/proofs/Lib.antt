@@ -1,0 +1,3 @@
+pub mod Kepts
+pub mod Places
+pub mod Missed
