@@ -4,3 +4,4 @@ pub mod Scanning
 pub mod Passing
 pub mod Wording
 pub mod Counting
+pub mod Joining

@@ -4,3 +4,4 @@ pub mod Numbers
 pub mod Grammar
 pub mod Statements
 pub mod Edits
+pub mod Chain

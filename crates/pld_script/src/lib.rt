@@ -1,6 +1,7 @@
 //! The statements of a session's text: its lines, the words of a line, and what they say.
 #![tactic(auto)]
 
+mod chain;
 mod depth;
 mod grammar;
 mod laws;
@@ -13,6 +14,7 @@ mod statement;
 mod text;
 mod window;
 
+pub use chain::gen_script;
 pub use depth::Depth;
 pub use laws::firsts_are_one;
 pub use levels::Levels;

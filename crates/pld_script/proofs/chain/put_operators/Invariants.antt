@@ -1,0 +1,6 @@
+use Rattle.std.proofs.Common.{◌≡◌, ◌++◌, ◌+◌, string_bytes}
+use Rattle.pld_script.specs.Chain.{texts_below, operator_text}
+use Rattle.pld_script.proofs.chain.put_operators.Given as goal
+
+abbrev pub invariant-loop-i : goal.invariant-loop-i
+invariant-loop-i l = string_bytes l.text ≡ string_bytes l.fn.text ++ texts_below (λ i. operator_text (i + 1)) l.i
