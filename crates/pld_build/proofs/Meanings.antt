@@ -11,7 +11,8 @@ use Rattle.pld_image.specs.Processes.{process_of}
 use Rattle.rv_back.specs.Form.{soft_form}
 use Rattle.fsm_back.specs.Form.{hard_form}
 use Rattle.pld_draft.specs.declared.parts.Source.{Source}
-use Rattle.pld_build.specs.Images.{image_by, image_of}
+use Rattle.par_build.specs.Jobs.{image_by}
+use Rattle.pld_build.specs.Images.{image_of}
 
 by_kind : (P : Process → Type 0) (kind : Kind) (op : Operator) → P (process_of (soft_form op)) → P (process_of (hard_form op)) → P (process_of (image_by kind op))
 by_kind P Soft op a b = a

@@ -1,22 +1,13 @@
--- The images of operators, and how many of them are compiled.
-use Rattle.std.specs.Prelude.{ℕ, ◌+◌, Bool, true, false, ◌&&◌, List, [], ◌∷◌, ◌++◌, Option, Some, None, if◌then◌else◌}
-use Rattle.std.specs.List.{list_any}
-use Rattle.std.specs.Str.{bytes_eq}
-use Rattle.pld_base.specs.declared.event.Kind.{Kind}
-use Rattle.pld_base.specs.declared.event.Kind.TheVariants.{Soft, Hard}
+-- The images of sources, and how many of them are compiled.
+use Rattle.std.specs.Prelude.{◌≡◌, ℕ, List, [], length, map, Option, Some, slice_index_or}
 use Rattle.pld_base.specs.Process.{Process}
-use Rattle.pld_ast.specs.declared.tree.Operator.{Operator}
 use Rattle.pld_ast.specs.Meaning.{trace}
 use Rattle.pld_ast.specs.Resolve.{program_of}
-use Rattle.image_form.specs.Spelling.{Form}
-use Rattle.rv_back.specs.Form.{soft_form}
-use Rattle.fsm_back.specs.Form.{hard_form}
+use Rattle.image_form.specs.Spelling.{Form, Soft}
+use Rattle.par_build.specs.Jobs.{image_by}
+use Rattle.build_cache.specs.Pairs.{Pair, Kept, image_under, misses}
 use Rattle.pld_draft.specs.declared.parts.Source.{Source}
-
--- an operator, compiled for a kind of page
-abbrev pub image_by : Kind → Operator → Form
-image_by Soft operator = soft_form operator
-image_by Hard operator = hard_form operator
+use Rattle.pld_draft.specs.Draft.{IsRead}
 
 -- what a source is compiled to
 unfoldable pub image_of : Source → Form
@@ -26,30 +17,22 @@ image_of s = image_by s.kind s.operator
 abbrev pub meaning_of : Source → Process
 meaning_of s = trace (program_of s.operator)
 
-abbrev pub same_kind : Kind → Kind → Bool
-same_kind Soft Soft = true
-same_kind Soft Hard = false
-same_kind Hard Soft = false
-same_kind Hard Hard = true
+-- the pair of kind and text under which a source's image is kept
+abbrev pub pair_of : Source → Pair
+pair_of s = record { kind = s.kind; text = s.text }
 
--- the same pair of kind and text
-abbrev pub is_same : Source → Source → Bool
-is_same a b = same_kind a.kind b.kind && bytes_eq a.text b.text
+-- how many of the sources' pairs weren't compiled before: so many are compiled
+abbrev pub compiles : List Pair → List Source → ℕ
+compiles kept sources = length (misses kept (map pair_of sources))
 
--- the place of the first source of the same pair, where places are counted from n
-abbrev pub same_from : ℕ → Source → List Source → Option ℕ
-same_from n s [] = None
-same_from n s (o ∷ os) = if is_same s o then Some n else same_from (n + 1) s os
+-- an image that is kept is that of each source of its pair
+abbrev pub KeepsImages : Kept → Type 0
+KeepsImages kept = (s : Source) → IsRead s → (f : Form) → image_under (pair_of s) kept ≡ Some f → f ≡ image_of s
 
--- 1 where the source is the first of its pair behind these, else 0
-abbrev pub compiles : List Source → Source → ℕ
-compiles before s = if list_any (is_same s) before then 0 else 1
+-- stands for an image that isn't there
+abbrev pub no_image : Form
+no_image = Soft 0 0 []
 
--- how many of the later sources are the first of their pair
-abbrev pub firsts : List Source → List Source → ℕ
-firsts before [] = 0
-firsts before (s ∷ later) = compiles before s + firsts (before ++ s ∷ []) later
-
--- how many distinct pairs there are: so many are compiled
-abbrev pub distinct : List Source → ℕ
-distinct sources = firsts [] sources
+-- the images of the sources at these places
+abbrev pub images_at : List Source → List ℕ → List Form
+images_at sources places = map (λ k. slice_index_or (map image_of sources) k no_image) places

@@ -9,9 +9,11 @@ ghost use Rattle.pld_ast.specs.Sound.{IsSound};
 ghost use Rattle.image_form.specs.Spelling.{IsForm};
 ghost use Rattle.pld_image.specs.Ports.{ins_of, outs_of};
 ghost use Rattle.pld_image.specs.Processes.{process_of};
+ghost use Rattle.build_cache.specs.Pairs.{Pair};
 ghost use Rattle.pld_draft.specs.declared.parts.Source.{Source};
-ghost use Rattle.pld_build.specs.Images.{image_of, meaning_of, distinct};
+ghost use Rattle.pld_build.specs.Images.{image_of, meaning_of, compiles};
 
+use build_cache::misses_are_few;
 use fsm_back::{tables_are_in_range, tables_keep_the_meaning};
 use pld_ast::operators_are_processes;
 use pld_draft::Source;
@@ -51,7 +53,9 @@ pub fn sources_are_processes(sources: &[Source])
     }
 }
 
-/// There are no more distinct pairs than sources.
+/// No more pairs are compiled than there are sources.
 pub fn pairs_are_few()
-    ensures { (sources : List Source) → distinct sources ≤ length sources }
-{}
+    ensures { (kept : List Pair) (sources : List Source) → compiles kept sources ≤ length sources }
+{
+    misses_are_few();
+}

@@ -1,9 +1,9 @@
-//! Sources of which some repeat: how many are compiled, and which images are equal.
+//! Sources of which some repeat, at once and later: how many are compiled, and which images are equal.
 
 ghost use Rattle.std.specs.Prelude.{◌≡◌, IfOk};
 ghost use Rattle.pld_draft.specs.Draft.{IsRead};
 
-use crate::{Built, build};
+use crate::{Built, Compiler};
 use pld_base::{Kind, NoMemory, Permits};
 use pld_draft::Source;
 use pld_image::{Image, image_bytes};
@@ -45,7 +45,7 @@ fn five_images(alloc: Global, permits: &mut Permits) -> Result<Built, Fail>
         source(alloc, Kind::Soft, TWO)?,
         source(alloc, Kind::Hard, ONE)?,
     ];
-    let built = build(alloc, permits, &sources)?;
+    let built = Compiler::new(alloc).build(alloc, permits, &sources)?;
     Ok(built)
 }
 
@@ -65,6 +65,41 @@ fn each_pair_is_compiled_once(rt: HostRuntime) -> Result<(), Fail> {
             let same = same_bytes(alloc, image, other)?;
             assert_eq!(rt; same, pair == its, "{pair}, {its}");
         }
+    }
+    Ok(())
+}
+
+// How many pairs a build of one source compiles.
+fn compiled(
+    alloc: Global,
+    compiler: &mut Compiler,
+    permits: &mut Permits,
+    kind: Kind,
+    text: &[u8],
+) -> Result<u64, Fail> {
+    if permits.count() > 10 {
+        return Err("too many permits".into());
+    }
+    let sources = [source(alloc, kind, text)?];
+    let built = compiler.build(alloc, permits, &sources)?;
+    Ok(built.compiled)
+}
+
+#[test]
+fn a_pair_that_comes_back_costs_no_permit(rt: HostRuntime) -> Result<(), Fail> {
+    let alloc = rt.alloc();
+    let mut permits = Permits::new();
+    let mut compiler = Compiler::new(alloc);
+    for (kind, text, count, issued) in [
+        (Kind::Soft, ONE, 1, 1),
+        (Kind::Soft, TWO, 1, 2),
+        (Kind::Soft, ONE, 0, 2),
+        (Kind::Hard, ONE, 1, 3),
+        (Kind::Hard, ONE, 0, 3),
+    ] {
+        let made = compiled(alloc, &mut compiler, &mut permits, kind, text)?;
+        assert_eq!(rt; made, count);
+        assert_eq!(rt; permits.count(), issued);
     }
     Ok(())
 }

@@ -12,6 +12,7 @@ ghost use Rattle.pld_program.specs.Program.{HasRun, ProgramEnds};
 use pld_driver::put_all;
 use pld_io::{Sink, Source};
 use pld_session::{Bench, Status, pld};
+use pld_words::read_words;
 use std::process::ExitCode;
 use std::rt::Env;
 use std::{env, io};
@@ -46,7 +47,10 @@ fn command<R: Env + AllocGlobal, S: Source, K: Sink>(
         Ok(words) => words,
         Err(status) => return status,
     };
-    pld(rt.alloc(), words.as_slice(), source, sink, bench)
+    let words = words.as_slice();
+    // Commands are in range.
+    let _command = read_words(words);
+    pld(rt.alloc(), words, source, sink, bench)
 }
 
 /// What standard error says of a status: a line, or nothing.

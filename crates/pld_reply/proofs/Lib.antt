@@ -1,3 +1,4 @@
 mod Replying
 mod Lengths
 mod Outs
+mod Summing

@@ -18,6 +18,17 @@ joins old one two three a b c e f g = g ∙ ap (λ l. l ++ c) (f ∙ ap (λ l. l
 pub joins_four : (old one two three four a b c d : List ℕ) → one ≡ old ++ a → two ≡ one ++ b → three ≡ two ++ c → four ≡ three ++ d → four ≡ old ++ (((a ++ b) ++ c) ++ d)
 joins_four old one two three four a b c d e f g h = h ∙ ap (λ l. l ++ d) (g ∙ ap (λ l. l ++ c) (f ∙ ap (λ l. l ++ b) e)) ∙ (let k : (((old ++ a) ++ b) ++ c) ++ d ≡ old ++ (((a ++ b) ++ c) ++ d) = simp append_assoc in k)
 
+pub joins_five : (old n1 n2 n3 n4 n5 a b c d e : List ℕ) → n1 ≡ old ++ a → n2 ≡ n1 ++ b → n3 ≡ n2 ++ c → n4 ≡ n3 ++ d → n5 ≡ n4 ++ e → n5 ≡ old ++ ((((a ++ b) ++ c) ++ d) ++ e)
+joins_five old n1 n2 n3 n4 n5 a b c d e p1 p2 p3 p4 p5 =
+    p5 ∙ ap (λ l. l ++ e) (p4 ∙ ap (λ l. l ++ d) (p3 ∙ ap (λ l. l ++ c) (p2 ∙ ap (λ l. l ++ b) p1)))
+    ∙ (let k : ((((old ++ a) ++ b) ++ c) ++ d) ++ e ≡ old ++ ((((a ++ b) ++ c) ++ d) ++ e) = simp append_assoc in k)
+
+pub joins_seven : (old n1 n2 n3 n4 n5 n6 n7 a b c d e f g h i j k : List ℕ) → n1 ≡ old ++ a → n2 ≡ n1 ++ b → n3 ≡ n2 ++ c → n4 ≡ n3 ++ d → n5 ≡ n4 ++ e → n6 ≡ n5 ++ f → n7 ≡ n6 ++ ((((g ++ h) ++ i) ++ j) ++ k)
+    → n7 ≡ old ++ ((((((((((a ++ b) ++ c) ++ d) ++ e) ++ f) ++ g) ++ h) ++ i) ++ j) ++ k)
+joins_seven old n1 n2 n3 n4 n5 n6 n7 a b c d e f g h i j k p1 p2 p3 p4 p5 p6 p7 =
+    p7 ∙ ap (λ l. l ++ ((((g ++ h) ++ i) ++ j) ++ k)) (p6 ∙ ap (λ l. l ++ f) (p5 ∙ ap (λ l. l ++ e) (p4 ∙ ap (λ l. l ++ d) (p3 ∙ ap (λ l. l ++ c) (p2 ∙ ap (λ l. l ++ b) p1)))))
+    ∙ (let m : ((((((old ++ a) ++ b) ++ c) ++ d) ++ e) ++ f) ++ ((((g ++ h) ++ i) ++ j) ++ k) ≡ old ++ ((((((((((a ++ b) ++ c) ++ d) ++ e) ++ f) ++ g) ++ h) ++ i) ++ j) ++ k) = simp append_assoc in m)
+
 pub joins_nine : (old n1 n2 n3 n4 n5 n6 n7 n8 n9 a b c d e f g h i : List ℕ) → n1 ≡ old ++ a → n2 ≡ n1 ++ b → n3 ≡ n2 ++ c → n4 ≡ n3 ++ d → n5 ≡ n4 ++ e → n6 ≡ n5 ++ f → n7 ≡ n6 ++ g → n8 ≡ n7 ++ h → n9 ≡ n8 ++ i
     → n9 ≡ old ++ ((((((((a ++ b) ++ c) ++ d) ++ e) ++ f) ++ g) ++ h) ++ i)
 joins_nine old n1 n2 n3 n4 n5 n6 n7 n8 n9 a b c d e f g h i p1 p2 p3 p4 p5 p6 p7 p8 p9 =

@@ -1,4 +1,5 @@
 pub mod Refusals
 pub mod Replies
 pub mod Sizes
+pub mod Summary
 pub mod Tables

@@ -8,6 +8,7 @@ mod plain;
 mod put;
 mod refusals;
 mod runs;
+mod summary;
 mod tables;
 #[cfg(test)]
 mod tests;
@@ -17,4 +18,5 @@ pub use laws::{run_replies_are_short, runs_have_outs};
 pub use plain::{put_built, put_ok, put_stats};
 pub use refusals::{Refusal, put_refused};
 pub use runs::put_run;
+pub use summary::put_summary;
 pub use tables::{PlacedPage, put_tables};

@@ -42,6 +42,7 @@ use Rattle.pld_driver.specs.Walk.{Step, Says, Runs}
 use Rattle.pld_driver.specs.Moments.{Took, Broke}
 use Rattle.pld_driver.specs.declared.engine.Bench.{Bench}
 use Rattle.pld_reply.specs.declared.refusals.Refusal.TheVariants as refusal
+use Rattle.build_cache.specs.Pairs.{Pair}
 use Rattle.pld_session.specs.States.{State, BuildValue, IsBuild, CanBuild, images, leaves}
 use Rattle.pld_session.specs.Runs.{meanings, feeds, given_in, ran_reply, end_of, counts_of, Plain, FitsRun, FitsNow, holding}
 use Rattle.pld_session.specs.Answers.{runs, runs_built, ran, after_run, refuses, most_runs, Fits}
@@ -242,13 +243,13 @@ same_given a b l i p f r =
     ∙ ap (λ x. record { leaves = b.leaves; images = b.images; before = b.before; feeds = b.feeds; rounds = x }) r
 
 -- the state behind a run
-pub run_state : (rounds : ℕ) (d : DraftState) (built : Bool) (standing left : List (Option Row)) (count : ℕ) (counted : Option Counts) (counts : Counts) (run : Record)
+pub run_state : (rounds : ℕ) (d : DraftState) (compiled : List Pair) (built : Bool) (standing left : List (Option Row)) (count : ℕ) (counted : Option Counts) (counts : Counts) (run : Record)
     → left ≡ standing_rows (tree_setup run.plan) (end_of run) → counts ≡ counts_of run
-    → ◌≡◌ {A = State} (record { rounds = rounds; draft = d; built = built; standing = left; runs = count + 1; counted = Some counts })
-    (after_run (record { rounds = rounds; draft = d; built = built; standing = standing; runs = count; counted = counted }) run)
-run_state rounds d built standing left count counted counts run rows same =
-    ap (λ l. record { rounds = rounds; draft = d; built = built; standing = l; runs = count + 1; counted = Some counts }) rows
-    ∙ ap (λ x. record { rounds = rounds; draft = d; built = built; standing = standing_rows (tree_setup run.plan) (end_of run); runs = count + 1; counted = Some x }) same
+    → ◌≡◌ {A = State} (record { rounds = rounds; draft = d; compiled = compiled; built = built; standing = left; runs = count + 1; counted = Some counts })
+    (after_run (record { rounds = rounds; draft = d; compiled = compiled; built = built; standing = standing; runs = count; counted = counted }) run)
+run_state rounds d compiled built standing left count counted counts run rows same =
+    ap (λ l. record { rounds = rounds; draft = d; compiled = compiled; built = built; standing = l; runs = count + 1; counted = Some counts }) rows
+    ∙ ap (λ x. record { rounds = rounds; draft = d; compiled = compiled; built = built; standing = standing_rows (tree_setup run.plan) (end_of run); runs = count + 1; counted = Some x }) same
 
 pub same_counts : (a b : Counts) → a.rounds ≡ b.rounds → a.packets ≡ b.packets → a.deflected ≡ b.deflected → a.configs ≡ b.configs → a ≡ b
 same_counts a b r p d c =

@@ -28,9 +28,9 @@ use Rattle.pld_link.specs.Rows.{rows}
 use Rattle.pld_graph.specs.Sound.{IsSound}
 use Rattle.pld_draft.specs.declared.parts.Source.{Source}
 use Rattle.pld_draft.specs.Draft.{IsKept, entry_ports, source_ports}
-use Rattle.pld_build.specs.Images.{image_of, distinct}
+use Rattle.pld_build.specs.Images.{image_of, compiles}
 use Rattle.pld_session.specs.Answers.{answer_to, builds, builds_if, builds_closed, edits, edits_to, dumps, dumps_at, dumps_tables, placed_pages, no_image, refuses, Fits}
-use Rattle.pld_session.specs.States.{State, BuildValue, IsBuild, images, tables}
+use Rattle.pld_session.specs.States.{State, BuildValue, IsBuild, images, tables, with_pairs}
 use Rattle.pld_session.specs.Steps.{Tells, TellsEdit, Makes}
 
 -- the answer to an edit
@@ -150,10 +150,10 @@ under n m h = grind (arith, nat_tests, h)
 module _ (st : State) (number : ℕ) (some : nat_le (length st.draft.sources) 0 ≡ false) (closed : open_port st.draft.design ≡ None) where
   abbrev done : Answered State
   done = record {
-    reply = built_reply (length st.draft.sources) (distinct st.draft.sources);
+    reply = built_reply (length st.draft.sources) (compiles st.compiled st.draft.sources);
     refused = false;
-    permits = distinct st.draft.sources;
-    next = record st { built = true };
+    permits = compiles st.compiled st.draft.sources;
+    next = record st { built = true; compiled = with_pairs st.compiled st.draft };
   }
 
   abbrev few : Answered State
@@ -169,19 +169,19 @@ module _ (st : State) (number : ℕ) (some : nat_le (length st.draft.sources) 0 
   few_is lack = closed_is ∙ ap (λ b. if b then few else done) (under (pages st.draft.design) (length st.draft.sources) lack)
 
   -- a build that isn't done has spent no more than its permits
-  pub build_spends : (old new : ℕ) → length st.draft.sources ≤ pages st.draft.design → old ≤ new → new ≤ old + distinct st.draft.sources → Spends old new (builds st number).permits
+  pub build_spends : (old new : ℕ) → length st.draft.sources ≤ pages st.draft.design → old ≤ new → new ≤ old + compiles st.compiled st.draft.sources → Spends old new (builds st number).permits
   build_spends old new enough least most = subst (λ (a : Answered State). Spends old new a.permits) (sym (done_is enough)) (least, most)
 
   -- there are more operators than pages
-  pub build_refused : (operators leaves : ℕ) (old new : Bench Record) (reply : List ℕ) (refused : Bool) → pages st.draft.design < length st.draft.sources → operators ≡ length st.draft.sources → leaves ≡ pages st.draft.design
+  pub build_refused : (operators leaves : ℕ) (old new : Bench Record) (reply : List ℕ) (refused : Bool) (next : State) → next ≡ st → pages st.draft.design < length st.draft.sources → operators ≡ length st.draft.sources → leaves ≡ pages st.draft.design
       → new.records.items ≡ old.records.items → new.permits ≡ old.permits → (refused ≡ true) × (reply ≡ refused_reply number (refusal.TooFewPages operators leaves))
-      → Took (answer_to st number (Some statement.Build)) (Fits st) old new reply refused st
-  build_refused operators leaves old new reply refused lack o p records permits told =
-      subst (λ (a : Answered State). IsAnswer a old.permits new.permits reply refused st × (new.records.items ≡ old.records.items)) (sym (few_is lack)) (
+      → Took (answer_to st number (Some statement.Build)) (Fits st) old new reply refused next
+  build_refused operators leaves old new reply refused next same lack o p records permits told =
+      subst (λ (a : Answered State). IsAnswer a old.permits new.permits reply refused next × (new.records.items ≡ old.records.items)) (sym (few_is lack)) (
         record {
           says = told.1 ∙ ap (λ n. refused_reply number (refusal.TooFewPages n leaves)) o ∙ ap (λ n. refused_reply number (refusal.TooFewPages (length st.draft.sources) n)) p;
           flag = told.0;
-          state = refl;
+          state = same;
           spent = omega (arith, permits);
         },
         records,

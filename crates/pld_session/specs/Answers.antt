@@ -12,7 +12,7 @@ use Rattle.pld_draft.specs.declared.parts.EditRefusal.{EditRefusal}
 use Rattle.pld_draft.specs.declared.parts.EditRefusal.TheVariants as why
 use Rattle.pld_draft.specs.Draft.{DraftState}
 use Rattle.pld_draft.specs.Edits.{Edited, edited}
-use Rattle.pld_build.specs.Images.{distinct}
+use Rattle.pld_build.specs.Images.{compiles}
 use Rattle.pld_reply.specs.declared.refusals.Refusal.{Refusal}
 use Rattle.pld_reply.specs.declared.refusals.Refusal.TheVariants as refusal
 use Rattle.pld_reply.specs.Refusals.{refused_reply}
@@ -29,7 +29,7 @@ use Rattle.pld_script.specs.declared.statement.Edit.{Edit}
 use Rattle.pld_script.specs.Edits.{is_of_words}
 use Rattle.pld_script.specs.Statements.{Placed}
 use Rattle.pld_driver.specs.Walk.{Answered, Step, Says, Runs}
-use Rattle.pld_session.specs.States.{State, images, leaves, tables}
+use Rattle.pld_session.specs.States.{State, images, leaves, tables, with_pairs}
 use Rattle.pld_session.specs.Runs.{ran_reply, end_of, counts_of, Plain, FitsRun}
 
 -- the statement is refused, and nothing changes
@@ -68,10 +68,10 @@ builds_closed st number =
     if nat_lt (pages st.draft.design) (length st.draft.sources)
     then refuses st number (refusal.TooFewPages (length st.draft.sources) (pages st.draft.design))
     else record {
-      reply = built_reply (length st.draft.sources) (distinct st.draft.sources);
+      reply = built_reply (length st.draft.sources) (compiles st.compiled st.draft.sources);
       refused = false;
-      permits = distinct st.draft.sources;
-      next = record st { built = true };
+      permits = compiles st.compiled st.draft.sources;
+      next = record st { built = true; compiled = with_pairs st.compiled st.draft };
     }
 
 abbrev pub builds_if : State → ℕ → Option End → Answered State

@@ -4,3 +4,5 @@ pub mod Answers
 pub mod Steps
 pub mod Headline
 pub mod Laws
+pub mod Large
+pub mod Commands

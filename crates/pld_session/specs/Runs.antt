@@ -1,5 +1,5 @@
 -- A run of a session's design: what is run, the reply, and what its record is.
-use Rattle.std.specs.Prelude.{◌≡◌, ℕ, true, List, length, map, Option, None, IsSome}
+use Rattle.std.specs.Prelude.{◌≡◌, ℕ, true, List, [], length, map, Option, None, IsSome}
 use Rattle.pld_base.specs.Process.{Process}
 use Rattle.net_switch.specs.declared.packet.Row.{Row}
 use Rattle.net_tree.specs.Links.{Links}
@@ -83,7 +83,7 @@ pub record FitsRun (order : Order) (st : State) (run : Record) : Type 0 where
 
 -- a state that holds this, of which it is asked what its runs are
 abbrev pub holding : ℕ → DraftState → List (Option Row) → State
-holding rounds d standing = record { rounds = rounds; draft = d; built = true; standing = standing; runs = 0; counted = None }
+holding rounds d standing = record { rounds = rounds; draft = d; compiled = []; built = true; standing = standing; runs = 0; counted = None }
 
 -- the record of a run of one worker fits a state that holds this
 abbrev pub FitsNow : ℕ → DraftState → List (Option Row) → Record → Type 0

@@ -1,12 +1,13 @@
 -- What a session holds.
-use Rattle.std.specs.Prelude.{◌≡◌, ℕ, ◌+◌, ◌≤◌, ◌<◌, Bool, false, List, [], length, map, Option, None, Result, Ok, Err}
+use Rattle.std.specs.Prelude.{◌≡◌, ℕ, ◌+◌, ◌≤◌, ◌<◌, Bool, false, List, [], ◌++◌, length, map, Option, None, Result, Ok, Err}
 use Rattle.pld_base.specs.declared.memory.Refused.{Refused}
 use Rattle.pld_base.specs.declared.memory.Refused.TheVariants.{Fault, NoMemory}
 use Rattle.net_switch.specs.declared.packet.Row.{Row}
 use Rattle.image_form.specs.Spelling.{Form}
 use Rattle.pld_graph.specs.Design.{open_port}
 use Rattle.pld_draft.specs.Draft.{DraftState, at_first as first_draft}
-use Rattle.pld_build.specs.Images.{image_of, distinct}
+use Rattle.build_cache.specs.Pairs.{Pair, missed}
+use Rattle.pld_build.specs.Images.{image_of, pair_of, compiles}
 use Rattle.pld_place.specs.declared.placement.TooFewPages.{TooFewPages}
 use Rattle.pld_place.specs.Placing.{pages, placed}
 use Rattle.pld_link.specs.Rows.{rows}
@@ -17,6 +18,8 @@ pub record State : Type 0 where
   pub rounds : ℕ
   -- the design, with the texts of its operators and the words of its inputs
   pub draft : DraftState
+  -- the pairs of kind and text that were compiled so far
+  pub compiled : List Pair
   -- whether a build succeeded since the last edit
   pub built : Bool
   -- the rows that stand at the leaves of the tree
@@ -28,7 +31,7 @@ pub record State : Type 0 where
 
 -- a tree of depth 4, and nothing in it
 abbrev pub at_first : ℕ → State
-at_first rounds = record { rounds = rounds; draft = first_draft 4; built = false; standing = []; runs = 0; counted = None }
+at_first rounds = record { rounds = rounds; draft = first_draft 4; compiled = []; built = false; standing = []; runs = 0; counted = None }
 
 -- The full build of a design: the image of each operator and its leaf, in the order of declaration, and the rows of all leaves.
 
@@ -60,9 +63,15 @@ pub record IsBuild (d : DraftState) (made : BuildValue) : Type 0 where
   pub tables : made.tables ≡ tables d
   pub can : CanBuild d
 
--- What a build of a design that has an operator and is closed comes to, and the permits before and after it: the full build and how many images
--- were compiled, with a permit each; or more operators than pages.
-abbrev pub Builds : Result (BuildValue × ℕ) (Refused TooFewPages) → DraftState → ℕ → ℕ → Type 0
-Builds (Ok made) d old new = IsBuild d made.0 × (made.1 ≡ distinct d.sources) × (new ≡ old + distinct d.sources)
-Builds (Err (Fault few)) d old new = (pages d.design < length d.sources) × (few.operators ≡ length d.sources) × (few.pages ≡ pages d.design) × (new ≡ old)
-Builds (Err NoMemory) d old new = (length d.sources ≤ pages d.design) × (old ≤ new) × (new ≤ old + distinct d.sources)
+-- what is compiled, once those of a design's pairs are that weren't before
+abbrev pub with_pairs : List Pair → DraftState → List Pair
+with_pairs compiled d = compiled ++ missed compiled (map pair_of d.sources)
+
+-- What a build of a design that has an operator and is closed comes to, what was compiled before and after it, and the permits before and after
+-- it: the full build and how many images were compiled, with a permit each; or more operators than pages.
+abbrev pub Builds : Result (BuildValue × ℕ) (Refused TooFewPages) → DraftState → List Pair → List Pair → ℕ → ℕ → Type 0
+Builds (Ok made) d before after old new =
+    IsBuild d made.0 × (made.1 ≡ compiles before d.sources) × (new ≡ old + compiles before d.sources) × (after ≡ with_pairs before d)
+Builds (Err (Fault few)) d before after old new =
+    (pages d.design < length d.sources) × (few.operators ≡ length d.sources) × (few.pages ≡ pages d.design) × (new ≡ old) × (after ≡ before)
+Builds (Err NoMemory) d before after old new = (length d.sources ≤ pages d.design) × (old ≤ new) × (new ≤ old + compiles before d.sources)

@@ -1,10 +1,11 @@
 //! What a build makes.
 
-ghost use Rattle.std.specs.Prelude.{◌≡◌, ◌+◌, ◌≤◌, ◌<◌, ◌^◌, None, length, map, IfOk, OnErr, OnOk};
+ghost use Rattle.std.specs.Prelude.{◌≡◌, ◌+◌, ◌++◌, ◌≤◌, ◌<◌, ◌^◌, None, length, map, IfOk, OnErr, OnOk};
 ghost use Rattle.std.specs.List.{All};
 ghost use Rattle.pld_graph.specs.Design.{open_port};
 ghost use Rattle.pld_draft.specs.Draft.{IsRead};
-ghost use Rattle.pld_build.specs.Images.{image_of, distinct};
+ghost use Rattle.build_cache.specs.Pairs.{missed};
+ghost use Rattle.pld_build.specs.Images.{image_of, pair_of, compiles};
 ghost use Rattle.pld_link.specs.Seats.{IsPlacement, numbers};
 ghost use Rattle.pld_link.specs.Rows.{rows};
 ghost use Rattle.pld_session.specs.States.{Builds};
@@ -12,7 +13,7 @@ ghost use Rattle.pld_session.specs.Answers.{pages_from};
 
 use net_switch::Row;
 use pld_base::{NoMemory, PageId, Permits, Refused};
-use pld_build::build;
+use pld_build::Compiler;
 use pld_draft::{Draft, Source};
 use pld_graph::Graph;
 use pld_image::Image;
@@ -38,24 +39,25 @@ impl Model for Build {
     ghost view = { λ b. record { images = b.images.items; leaves = b.placement; tables = b.tables.items } };
 }
 
-/// The full build of a design, and how many images were compiled, each with one of these permits. There are more operators than
-/// pages exactly where it says so.
+/// The full build of a design, and how many images were compiled, each with one of these permits: those of the pairs of kind and
+/// text that weren't compiled before. There are more operators than pages exactly where it says so.
 pub fn build_design(
     alloc: Global,
     permits: &mut Permits,
+    compiler: &mut Compiler,
     draft: &Draft,
 ) -> Result<(Build, u64), Refused<TooFewPages>>
     requires an_operator { 1 ≤ length draft.now.sources }
     requires closed { open_port draft.now.design ≡ None }
     requires room { permits.old + length draft.now.sources < 2 ^ 64 }
-    ensures { Builds result draft.now permits.old permits.new }
+    ensures { Builds result draft.now compiler.old compiler.new permits.old permits.new }
 {
     operators_have_leaves();
     let graph = draft.graph();
     let sources = draft.sources();
     let _operators = graph.operators();
     let placement = place(alloc, graph)?;
-    match make_build(alloc, permits, graph, sources, placement) {
+    match make_build(alloc, permits, compiler, graph, sources, placement) {
         Ok(made) => Ok(made),
         Err(NoMemory) => Err(Refused::NoMemory),
     }
@@ -65,6 +67,7 @@ pub fn build_design(
 fn make_build(
     alloc: Global,
     permits: &mut Permits,
+    compiler: &mut Compiler,
     graph: &Graph,
     sources: &[Source],
     placement: Placement,
@@ -75,12 +78,13 @@ fn make_build(
     ensures images { IfOk result (λ made. made.0.images ≡ map image_of sources.now) }
     ensures leaves { IfOk result (λ made. made.0.leaves ≡ placement) }
     ensures tables { IfOk result (λ made. made.0.tables ≡ rows graph.now placement) }
-    ensures compiled { IfOk result (λ made. made.1 ≡ distinct sources.now) }
-    ensures ok { OnOk result (permits.new ≡ permits.old + distinct sources.now) }
-    ensures err { OnErr result ((permits.old ≤ permits.new) × (permits.new ≤ permits.old + distinct sources.now)) }
+    ensures compiled { IfOk result (λ made. made.1 ≡ compiles compiler.old sources.now) }
+    ensures pairs { OnOk result (compiler.new ≡ compiler.old ++ missed compiler.old (map pair_of sources.now)) }
+    ensures ok { OnOk result (permits.new ≡ permits.old + compiles compiler.old sources.now) }
+    ensures err { OnErr result ((permits.old ≤ permits.new) × (permits.new ≤ permits.old + compiles compiler.old sources.now)) }
 {
     let tables = tables(alloc, graph, placement.leaf_of())?;
-    let built = build(alloc, permits, sources)?;
+    let built = compiler.build(alloc, permits, sources)?;
     let made = Build {
         images: built.images,
         placement,

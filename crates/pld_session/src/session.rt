@@ -14,7 +14,7 @@ use fabric_core::{Counts, Record};
 use fabric_plan::leave_rows;
 use net_switch::Row;
 use pld_base::{Name, NoMemory, Refused};
-use pld_build::pairs_are_few;
+use pld_build::{Compiler, pairs_are_few};
 use pld_draft::{Draft, EditFault};
 use pld_driver::{Bench, Engine};
 use pld_graph::GraphFault;
@@ -32,12 +32,13 @@ const DEPTH: u8 = 4;
 /// The most runs of a session.
 const RUNS: u64 = 64;
 
-/// A session: its design as it stands, its last build, the rows that stand at the leaves, how many runs it has made, and what
-/// the last one counted.
+/// A session: its design as it stands, the images compiled so far, its last build, the rows that stand at the leaves, how many
+/// runs it has made, and what the last one counted.
 #[derive(Drop)]
 pub struct Session {
     rounds: u64,
     draft: Draft,
+    compiler: Compiler,
     /// None where no build succeeded since the last edit.
     build: Option<Build>,
     /// The rows that the last run left; none before the first run, and where the tree has another depth since.
@@ -59,7 +60,7 @@ impl Model for Session {
 
     ghost coded = { Prim.hlevel (codes, stmt.the_row.coded, expr.the_row.coded) };
 
-    ghost view = { λ s. record { rounds = s.rounds; draft = s.draft; built = is_some s.build; standing = s.standing.items; runs = s.runs; counted = s.counted } };
+    ghost view = { λ s. record { rounds = s.rounds; draft = s.draft; compiled = s.compiler; built = is_some s.build; standing = s.standing.items; runs = s.runs; counted = s.counted } };
 
     ghost invariant = { λ s. (1 ≤ s.rounds) × (s.rounds ≤ 1000000) × (s.runs ≤ 64) × IfSome s.build (λ build. IsBuild s.draft build) × AreStanding s.draft.design.depth s.standing.items };
 }
@@ -74,6 +75,7 @@ impl Session {
         Session {
             rounds,
             draft: Draft::new(alloc, DEPTH),
+            compiler: Compiler::new(alloc),
             build: None,
             standing: Vec::new(alloc),
             runs: 0,
@@ -112,7 +114,7 @@ impl Session {
         answer_edit(number, done, reply)
     }
 
-    /// Builds the design: compiles each distinct pair of kind and text once.
+    /// Builds the design: compiles each pair of kind and text that no build of the session has compiled yet, once.
     fn build(
         &mut self,
         alloc: Global,
@@ -136,7 +138,7 @@ impl Session {
             return refuse(number, Refusal::OpenPort(open), reply);
         }
         let _operators = graph.operators();
-        match build_design(alloc, &mut bench.permits, &self.draft) {
+        match build_design(alloc, &mut bench.permits, &mut self.compiler, &self.draft) {
             Err(Refused::NoMemory) => Err(NoMemory),
             Err(Refused::Fault(few)) => refuse(number, too_few(few), reply),
             Ok((build, compiled)) => {

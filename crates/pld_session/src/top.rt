@@ -1,20 +1,22 @@
 //! The calls that run a session whole.
 
-ghost use Rattle.std.specs.Prelude.{◌≡◌, ◌↔◌, true, false, map, string_bytes};
+ghost use Rattle.std.specs.Prelude.{◌≡◌, ◌↔◌, Some, None, map, string_bytes};
 ghost use Rattle.pld_driver.specs.Outcome.{moment_of};
-ghost use Rattle.pld_session.specs.Headline.{IsFresh, IsInRange, SessionEnds, NothingHappened, is_command as is_command_of, default_rounds};
+ghost use Rattle.pld_words.specs.Words.{IsUpTo, command_of};
+ghost use Rattle.pld_words.specs.declared.Command.{Command as Asked};
+ghost use Rattle.pld_session.specs.Headline.{IsFresh, SessionEnds, NothingHappened};
+ghost use Rattle.pld_session.specs.Commands.{IsDone};
 
+use crate::large::pld_big;
 use crate::session::Session;
 use fabric_core::Record;
 use pld_driver::{Status, run};
 use pld_io::{Sink, Source};
+use pld_words::{Command, read_words};
 use std::alloc::Global;
 
 /// What a session leaves: the permits that it gave out, and a record of each run.
 pub type Bench = pld_driver::Bench<Record>;
-
-/// The rounds of a run, where no option says another number.
-const DEFAULT_ROUNDS: u64 = 100_000;
 
 /// How a session is run: how many rounds a run may make, from 1 to 1,000,000, and how many workers
 /// make it, from 1 to 8. `pld_plain` ignores the workers.
@@ -36,7 +38,7 @@ pub fn pld_plain<S: Source, K: Sink>(
     sink: &mut K,
     bench: &mut Bench,
 ) -> Status
-    requires rounds { IsInRange o.now.rounds }
+    requires rounds { IsUpTo 1000000 o.now.rounds }
     requires fresh { IsFresh bench.old }
 
     ensures outcome { SessionEnds o.now.rounds (moment_of (S.state src.old) (K.state sink.old) bench.old) (moment_of (S.state src.new) (K.state sink.new) bench.new) result }
@@ -45,18 +47,16 @@ pub fn pld_plain<S: Source, K: Sink>(
     run(alloc, src, sink, &mut session, bench)
 }
 
-/// Whether these are the words of a command: `plain` alone.
-fn is_command(words: &[String]) -> bool
-    ensures { result ≡ is_command_of (map string_bytes words.now) }
+/// A run of one worker, which may make so many rounds.
+fn of_rounds(rounds: u64) -> Options
+    ensures { result.rounds ≡ rounds }
 {
-    match words {
-        [word] => word.as_bytes() == b"plain".as_slice(),
-        _ => false,
-    }
+    Options { rounds, workers: 1 }
 }
 
-/// Runs the command that the words say, without the program's name. Usage comes exactly where they
-/// are no command; then nothing is asked of the source and of the sink.
+/// Runs the command that the words say, without the program's name: `plain` makes the session of the source's text, `big` the one
+/// with its number, and asks nothing of the source. Usage comes exactly where they are no command; then nothing is asked of the
+/// source and of the sink.
 pub fn pld<S: Source, K: Sink>(
     alloc: Global,
     words: &[String],
@@ -66,19 +66,18 @@ pub fn pld<S: Source, K: Sink>(
 ) -> Status
     requires { IsFresh bench.old }
 
-    ensures usage { (result ≡ Status.Usage) ↔ (is_command_of (map string_bytes words.now) ≡ false) }
+    ensures usage { (result ≡ Status.Usage) ↔ (command_of (map string_bytes words.now) ≡ None) }
     ensures nothing { result ≡ Status.Usage →
         NothingHappened (moment_of (S.state src.old) (K.state sink.old) bench.old) (moment_of (S.state src.new) (K.state sink.new) bench.new) }
 
-    ensures outcome { is_command_of (map string_bytes words.now) ≡ true →
-        SessionEnds default_rounds (moment_of (S.state src.old) (K.state sink.old) bench.old) (moment_of (S.state src.new) (K.state sink.new) bench.new) result }
+    ensures done { (command : Asked) → command_of (map string_bytes words.now) ≡ Some command →
+        IsDone command (moment_of (S.state src.old) (K.state sink.old) bench.old) (moment_of (S.state src.new) (K.state sink.new) bench.new) result }
 {
-    if !is_command(words) {
-        return Status::Usage;
+    match read_words(words) {
+        None => Status::Usage,
+        Some(Command::Plain { rounds }) => pld_plain(alloc, &of_rounds(rounds), src, sink, bench),
+        Some(Command::Big { number, rounds }) => {
+            pld_big(alloc, number, &of_rounds(rounds), sink, bench)
+        }
     }
-    let options = Options {
-        rounds: DEFAULT_ROUNDS,
-        workers: 1,
-    };
-    pld_plain(alloc, &options, src, sink, bench)
 }

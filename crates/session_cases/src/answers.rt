@@ -205,7 +205,7 @@ fn answers_each_statement(rt: HostRuntime) -> Result<(), Fail> {
         ),
         (
             b"op f soft\r\nvoid g(in a, out b) { int32_t x; x = read(a); write(b, (x - 3) + 4); x = read(a); }\r\nend\r\ninput f f.i0\r\ninput s f.i0\r\noutput f.o0 y\r\nfeed y 1\r\nfeed s -3\r\nbuild\r\nbuild\r\nrun\r\nrun\r\n",
-            b"ok\nrefused 4 NameTaken\nok\nok\nrefused 7 NotLinked\nok\nbuilt 1 compiled 1\nbuilt 1 compiled 1\nstalled\nat f.i0 empty\nout y 1 4294967294\nstalled\nat f.i0 empty\nout y 1 4294967294\n",
+            b"ok\nrefused 4 NameTaken\nok\nok\nrefused 7 NotLinked\nok\nbuilt 1 compiled 1\nbuilt 1 compiled 0\nstalled\nat f.i0 empty\nout y 1 4294967294\nstalled\nat f.i0 empty\nout y 1 4294967294\n",
             Status::SomeRefused,
         ),
         (

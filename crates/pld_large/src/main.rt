@@ -1,0 +1,16 @@
+//! A large session. What `pld` puts on standard error, here nothing, stands behind the line.
+#![tactic(auto)]
+
+use pld_io::{ReadSource, WriteSink};
+use pld_program::program;
+use pld_session::Bench;
+use std::io;
+use std::process::ExitCode;
+
+fn main(rt: HostRuntime) -> ExitCode {
+    let mut source = ReadSource::new(rt.reader());
+    let mut sink = WriteSink::new(io::writer(&rt));
+    let mut errors = WriteSink::new(io::writer(&rt));
+    let mut bench = Bench::new(rt.alloc());
+    program(&rt, &mut source, &mut sink, &mut errors, &mut bench)
+}
