@@ -6,14 +6,19 @@
 ghost use Rattle.std.specs.List.{All};
 ghost use Rattle.std.specs.Prelude.{◌≡◌, ◌+◌, ◌*◌, ◌^◌, ◌<◌, ◌≤◌, true, length, IfOk, IfSome};
 
-mod chain;
-
-use chain::{image, plan};
+use chain_plans::{image, plan};
 use fabric_core::{Fabric, run_plain};
 use pld_base::NoMemory;
 use std::alloc::Global;
 use std::io;
 use std::io::Read;
+
+// Code of five words, with one in-port and one out-port: lui x9, 0x80000; lw x5, 0(x9); addi x5, x5, 1; sw x5, 256(x9);
+// jal x0, -12.
+const IMAGE: [u8; 32] = [
+    b'P', b'L', b'D', b'I', b'S', 1, 1, 0, 5, 0, 0, 0, 0xb7, 0x04, 0, 0x80, 0x83, 0xa2, 0x04, 0,
+    0x93, 0x82, 0x12, 0, 0x23, 0xa0, 0x54, 0x10, 0x6f, 0xf0, 0x5f, 0xff,
+];
 
 // The three numbers of a text.
 fn numbers_in(text: &str) -> Option<(u8, u32, u64)> {
@@ -57,7 +62,7 @@ fn run(alloc: Global, pages: u8, words: u32, rounds: u64) -> Result<Option<Fabri
     if !is_in_range(pages, words, rounds) {
         return Ok(None);
     }
-    let Some(image) = image(alloc)? else {
+    let Some(image) = image(alloc, &IMAGE)? else {
         return Ok(None);
     };
     let plan = plan(alloc, pages, &image, counted(alloc, words)?, rounds)?;

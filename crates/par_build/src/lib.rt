@@ -2,6 +2,7 @@
 #![tactic(auto)]
 
 mod all;
+mod compile;
 mod crossing;
 mod each;
 mod job;
@@ -9,5 +10,6 @@ mod job;
 mod tests;
 
 pub use all::compile_all;
+pub use compile::{Compile, OneThread};
 pub use each::compile_each;
 pub use job::Job;

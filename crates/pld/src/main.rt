@@ -1,7 +1,7 @@
 //! The program: runs the command that its words say, from standard input to standard output.
 #![tactic(auto)]
 
-use pld_io::{ReadSource, WriteSink};
+use pld_io::{OpenGate, ReadSource, WriteSink};
 use pld_program::program;
 use pld_session::Bench;
 use std::io;
@@ -12,5 +12,5 @@ fn main(rt: HostRuntime) -> ExitCode {
     let mut sink = WriteSink::new(io::writer(&rt));
     let mut errors = WriteSink::new(rt.stderr());
     let mut bench = Bench::new(rt.alloc());
-    program(&rt, &mut source, &mut sink, &mut errors, &mut bench)
+    program(&rt, &mut source, &mut sink, &mut errors, &OpenGate, &mut bench)
 }

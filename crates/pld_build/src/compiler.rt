@@ -7,7 +7,7 @@ ghost use Rattle.pld_build.specs.Images.{image_of, pair_of, compiles, images_at}
 
 use crate::jobs::{jobs, keys};
 use build_cache::{Cache, misses_are_few, misses_are_first_places};
-use par_build::compile_each;
+use par_build::Compile;
 use pld_base::{NoMemory, Permits};
 use pld_draft::Source;
 use pld_image::Image;
@@ -51,14 +51,16 @@ impl Compiler {
     }
 
     /// The images of these sources, each read from its text. Each pair of kind and text that wasn't compiled before is compiled
-    /// once, with one permit; all images are copies of those that are kept. `compiled` is how many pairs were compiled. An error
+    /// once, by `maker`, with one permit; all images are copies of those that are kept. `compiled` is how many pairs were compiled. An error
     /// means that memory ran out: permits that were given out stay counted, and the images made so far may be kept.
-    pub fn build(
+    pub fn build<M: Compile>(
         &mut self,
         alloc: Global,
+        maker: &M,
         permits: &mut Permits,
         sources: &[Source],
     ) -> Result<Built, NoMemory>
+        requires ready { M.ready }
         requires read { All IsRead sources.now }
         requires room { permits.old + length sources.now < 2 ^ 64 }
         ensures images { IfOk result (λ built. built.images.items ≡ map image_of sources.now) }
@@ -69,7 +71,7 @@ impl Compiler {
     {
         misses_are_first_places();
         let places = self.misses(alloc, sources)?;
-        self.compile(alloc, permits, sources, places.as_slice())?;
+        self.compile(alloc, maker, permits, sources, places.as_slice())?;
         let images = self.images_for(alloc, sources)?;
         Ok(Built {
             images,
@@ -90,13 +92,15 @@ impl Compiler {
     }
 
     // Compiles the sources at these places, a permit each, and keeps their images.
-    fn compile(
+    fn compile<M: Compile>(
         &mut self,
         alloc: Global,
+        maker: &M,
         permits: &mut Permits,
         sources: &[Source],
         places: &[usize],
     ) -> Result<(), NoMemory>
+        requires ready { M.ready }
         requires misses { places.now ≡ misses_of self.old (map pair_of sources.now) }
         requires within { All (λ k. k < length sources.now) places.now }
         requires read { All IsRead sources.now }
@@ -107,7 +111,7 @@ impl Compiler {
     {
         let issued = permits.issue(alloc, places.len())?;
         let jobs = jobs(alloc, issued, sources, places)?;
-        let images = compile_each(alloc, jobs)?;
+        let images = maker.compile(alloc, jobs)?;
         self.keep_all(alloc, sources, places, images)
     }
 

@@ -4,6 +4,7 @@ ghost use Rattle.std.specs.Prelude.{◌≡◌, IfOk};
 ghost use Rattle.pld_draft.specs.Draft.{IsRead};
 
 use crate::{Built, Compiler};
+use par_build::OneThread;
 use pld_base::{Kind, NoMemory, Permits};
 use pld_draft::Source;
 use pld_image::{Image, image_bytes};
@@ -45,7 +46,7 @@ fn five_images(alloc: Global, permits: &mut Permits) -> Result<Built, Fail>
         source(alloc, Kind::Soft, TWO)?,
         source(alloc, Kind::Hard, ONE)?,
     ];
-    let built = Compiler::new(alloc).build(alloc, permits, &sources)?;
+    let built = Compiler::new(alloc).build(alloc, &OneThread, permits, &sources)?;
     Ok(built)
 }
 
@@ -81,7 +82,7 @@ fn compiled(
         return Err("too many permits".into());
     }
     let sources = [source(alloc, kind, text)?];
-    let built = compiler.build(alloc, permits, &sources)?;
+    let built = compiler.build(alloc, &OneThread, permits, &sources)?;
     Ok(built.compiled)
 }
 

@@ -8,7 +8,7 @@ ghost use Rattle.pld_driver.specs.Moments.{Answers, Stops, Ends, IsReady, IsGive
 
 use super::{Bench, Engine, Status};
 use pld_base::NoMemory;
-use pld_io::{Failed, Sink};
+use pld_io::{Failed, Gate, Sink};
 use pld_script::{Next, Scan, Statement, next_statement};
 use std::alloc::Global;
 
@@ -137,11 +137,13 @@ fn answer_one<K: Sink, E: Engine>(
     alloc: Global,
     number: u64,
     said: Option<Statement>,
+    gate: &(dyn Gate + Sync),
     engine: &mut E,
     bench: &mut Bench<E::Record>,
     sink: &mut K,
 ) -> Result<bool, Stop>
-    requires { bench.old.permits + 64 < 2 ^ 64 }
+    requires ready { E.ready }
+    requires room { bench.old.permits + 64 < 2 ^ 64 }
     ensures ok { IfOk result (λ refused. Answers E.step E.fits (record { number = number; said = said })
         (held_of engine.old bench.old (K.state sink.old)) (held_of engine.new bench.new (K.state sink.new)) refused) }
     ensures err { IfErr result (λ stop. Stops E.step E.fits (record { number = number; said = said })
@@ -152,7 +154,7 @@ fn answer_one<K: Sink, E: Engine>(
         Ok(reply) => reply,
         Err(_) => return Err(Stop::NoMemory),
     };
-    let refused = match engine.answer(alloc, number, said, bench, &mut reply) {
+    let refused = match engine.answer(alloc, number, said, gate, bench, &mut reply) {
         Ok(refused) => refused,
         Err(_) => return Err(Stop::NoMemory),
     };
@@ -253,10 +255,12 @@ pub fn answer_whole<K: Sink, E: Engine>(
     bytes: &[u8],
     ended: bool,
     place: &mut Place,
+    gate: &(dyn Gate + Sync),
     engine: &mut E,
     bench: &mut Bench<E::Record>,
     sink: &mut K,
 ) -> Flow
+    requires engine { E.ready }
     requires ready { IsReady bytes.now place.old bench.old.permits }
     requires short { length bytes.now < 2 ^ 40 }
     ensures ends { Ends E.step E.fits ended bytes.now (point_of engine.old bench.old (K.state sink.old) place.old)
@@ -273,7 +277,7 @@ pub fn answer_whole<K: Sink, E: Engine>(
         if quits(&given.said) {
             return Flow::Quits;
         }
-        match answer_one(alloc, number, given.said, engine, bench, sink) {
+        match answer_one(alloc, number, given.said, gate, engine, bench, sink) {
             Ok(refused) => {
                 place.start += given.used;
                 place.number = number + given.lines;

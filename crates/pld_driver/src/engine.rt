@@ -5,6 +5,7 @@ ghost use Rattle.pld_driver.specs.Walk.{Step};
 ghost use Rattle.pld_driver.specs.Moments.{Took, Broke};
 
 use pld_base::{NoMemory, Permits};
+use pld_io::Gate;
 use pld_script::Statement;
 use std::alloc::Global;
 
@@ -35,6 +36,9 @@ pub trait Engine {
     /// What a run leaves.
     type Record;
 
+    /// What is known before it is asked: of one that works on threads, that they may share what they need.
+    ghost ready: { Type 0 };
+
     /// What is said to a statement, and the state behind it.
     ghost step: { Self → Placed → Step Self Self.Record };
 
@@ -43,15 +47,17 @@ pub trait Engine {
 
     /// Answers a statement, or a bad line, whose first line has this number. The reply goes into the empty list, and the
     /// result says whether the statement was refused. An answer spends at most 64 permits. A run puts its record at the end
-    /// of the bench's. The one error is want of memory: then no answer was given, and the engine isn't asked again.
+    /// of the bench's. Pages that are turned on threads pass the gate. The one error is want of memory: then no answer was given, and the engine isn't asked again.
     fn answer(
         &mut self,
         alloc: Global,
         number: u64,
         said: Option<Statement>,
+        gate: &(dyn Gate + Sync),
         bench: &mut Bench<Self::Record>,
         reply: &mut Vec<u8>,
     ) -> Result<bool, NoMemory>
+        requires ready { ready }
         requires empty { reply.old.items ≡ [] }
         requires room { bench.old.permits + 64 < 2 ^ 64 }
         ensures ok { IfOk result (λ refused. Took (step self.old (record { number = number; said = said })) (fits self.old) bench.old bench.new reply.new.items refused self.new) }

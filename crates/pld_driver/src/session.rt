@@ -5,7 +5,7 @@ ghost use Rattle.pld_driver.specs.Reading.{Takes, limit};
 
 use super::answers::{Place, answer_whole};
 use super::{Bench, Engine, Status};
-use pld_io::{Sink, Source};
+use pld_io::{Gate, Sink, Source};
 use pld_script::Scan;
 use std::alloc::Global;
 
@@ -71,14 +71,16 @@ fn front(text: &[u8], most: usize) -> &[u8]
 /// `Fine` and `SomeRefused` come where the text was read to its end or to `quit`, and each reply was written; `ReadFault` where
 /// the source failed, and `TooLong` where the text has more than 16,777,216 bytes without a `quit`, and each reply to the whole
 /// statements before was written; `WriteFault` where the sink failed, `NoMemory` where memory was wanting, and `Usage` never.
-/// Once the source or the sink has failed, nothing more is asked of it.
+/// Once the source or the sink has failed, nothing more is asked of it. The gate is the one that pages pass which are turned on threads.
 pub fn run<S: Source, K: Sink, E: Engine>(
     alloc: Global,
     source: &mut S,
     sink: &mut K,
+    gate: &(dyn Gate + Sync),
     engine: &mut E,
     bench: &mut Bench<E::Record>,
 ) -> Status
+    requires engine { E.ready }
     requires records { bench.old.records.items ≡ [] }
     requires permits { bench.old.permits ≡ 0 }
 
@@ -99,14 +101,14 @@ pub fn run<S: Source, K: Sink, E: Engine>(
             Piece::Some => {}
             Piece::End => {
                 let bytes = text.as_slice();
-                let last = answer_whole(alloc, bytes, true, &mut place, engine, bench, sink);
+                let last = answer_whole(alloc, bytes, true, &mut place, gate, engine, bench, sink);
                 return last.status(place.refused);
             }
             Piece::Fault => return Status::ReadFault,
             Piece::NoMemory => return Status::NoMemory,
         }
         let bytes = front(text.as_slice(), most);
-        let flow = answer_whole(alloc, bytes, false, &mut place, engine, bench, sink);
+        let flow = answer_whole(alloc, bytes, false, &mut place, gate, engine, bench, sink);
         if !flow.is_open() {
             return flow.status(place.refused);
         }

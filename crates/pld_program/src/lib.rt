@@ -10,11 +10,13 @@ ghost use Rattle.pld_program.specs.Lines.{line_of, PutsLine};
 ghost use Rattle.pld_program.specs.Program.{HasRun, ProgramEnds};
 
 use pld_driver::put_all;
-use pld_io::{Sink, Source};
+use pld_io::{Gate, Sink, Source};
 use pld_session::{Bench, Status, pld};
 use pld_words::read_words;
 use std::process::ExitCode;
 use std::rt::Env;
+use std::sync::Wait;
+use std::thread::Threads;
 use std::{env, io};
 
 /// The words of the command line, without the program's name. Words that are no text are Usage.
@@ -34,10 +36,11 @@ fn words<R: Env + AllocGlobal>(rt: &R) -> Result<Vec<String>, Status>
 }
 
 /// Runs the command that the words of the command line say. Where there are no such words, nothing is done.
-fn command<R: Env + AllocGlobal, S: Source, K: Sink>(
+fn command<R: Env + AllocGlobal + Threads + Wait + Sync, S: Source, K: Sink>(
     rt: &R,
     source: &mut S,
     sink: &mut K,
+    gate: &(dyn Gate + Sync),
     bench: &mut Bench,
 ) -> Status
     requires { IsFresh bench.old }
@@ -50,7 +53,7 @@ fn command<R: Env + AllocGlobal, S: Source, K: Sink>(
     let words = words.as_slice();
     // Commands are in range.
     let _command = read_words(words);
-    pld(rt.alloc(), words, source, sink, bench)
+    pld(rt, rt.alloc(), words, source, sink, gate, bench)
 }
 
 /// What standard error says of a status: a line, or nothing.
@@ -86,19 +89,20 @@ fn tell<K: Sink>(status: Status, errors: &mut K) -> ExitCode
     ExitCode::from(status.number())
 }
 
-/// The whole program: runs the command that the words of the command line say on a source, a sink and an empty bench. Behind
-/// that it puts one line on `errors`, or nothing, and its exit status is the number of the status.
-pub fn program<R: Env + AllocGlobal, S: Source, K: Sink, L: Sink>(
+/// The whole program: runs the command that the words of the command line say on a source, a sink and an empty bench, where workers
+/// pass the gate with each page that they turn. Workers may wait for one another; no other command waits. Behind that it puts one line on `errors`, or nothing, and its exit status is the number of the status.
+pub fn program<R: Env + AllocGlobal + Threads + Wait + Sync, S: Source, K: Sink, L: Sink>(
     rt: &R,
     source: &mut S,
     sink: &mut K,
     errors: &mut L,
+    gate: &(dyn Gate + Sync),
     bench: &mut Bench,
 ) -> ExitCode
     requires { IsFresh bench.old }
     ensures { ProgramEnds (moment_of (S.state source.old) (K.state sink.old) bench.old) (moment_of (S.state source.new) (K.state sink.new) bench.new)
         (L.state errors.old) (L.state errors.new) (exit_status result) }
 {
-    let status = command(rt, source, sink, bench);
+    let status = command(rt, source, sink, gate, bench);
     tell(status, errors)
 }

@@ -12,9 +12,11 @@ use Rattle.pld_script.specs.Statements.{Placed}
 use Rattle.pld_driver.specs.Walk.{Answered, Step, Says, Runs, Walked, after, walk, is_quit}
 use Rattle.pld_driver.proofs.Walks.{pick}
 use Rattle.fabric_core.specs.declared.fabric.Record.{Record}
+use Rattle.pld_runner.specs.Orders.{Plain}
 use Rattle.pld_session.specs.States.{State}
 use Rattle.pld_reply.specs.declared.refusals.Refusal.TheVariants as refusal
-use Rattle.pld_session.specs.Answers.{answer, answer_to, refuses, ran, runs_built, most_runs, Fits}
+use Rattle.pld_session.specs.Answers.{answer, answer_to, refuses, ran, runs_built, most_runs}
+use Rattle.pld_session.specs.Runs.{FitsRun}
 use Rattle.pld_session.specs.Laws.{IsRecorded}
 
 -- a plan has one run of `plain`
@@ -25,10 +27,10 @@ OnePlain = (plan : PlanValue) (journal other : List Entry) → IsPlain (tree_set
 -- whatever records fit, the answer is the same
 abbrev Agrees : State → Step State Record → Type 0
 Agrees st (Says given) = Unit {0}
-Agrees st (Runs f) = (r s : Record) → Fits st r → Fits st s → f r ≡ f s
+Agrees st (Runs f) = (r s : Record) → FitsRun Plain st r → FitsRun Plain st s → f r ≡ f s
 
 -- a record that fits is the only one
-one_record : (one : OnePlain) (st : State) (r s : Record) → Fits st r → Fits st s → r ≡ s
+one_record : (one : OnePlain) (st : State) (r s : Record) → FitsRun Plain st r → FitsRun Plain st s → r ≡ s
 one_record one st r s f g =
     let same : s.plan ≡ r.plan = g.plan ∙ sym f.plan in
     let journals : r.journal ≡ s.journal = one r.plan r.journal s.journal f.ordered f.over
@@ -68,7 +70,7 @@ step_agrees st (Says given) rs ss walked g again a b =
 step_agrees st (Runs f) [] ss walked g again a b = let w : false ≡ true = a.whole in cc
 step_agrees st (Runs f) (r ∷ rs) [] walked g again a b = let w : false ≡ true = b.whole in cc
 step_agrees st (Runs f) (r ∷ rs) (s ∷ ss) walked g again a b =
-    let Fit : State × Record → Type 0 = λ run. Fits run.0 run.1 in
+    let Fit : State × Record → Type 0 = λ run. FitsRun Plain run.0 run.1 in
     let e : f r ≡ f s = g r s (All-head Fit (st, r) _ a.fit) (All-head Fit (st, s) _ b.fit) in
     let P : Answered State → Type 0 = λ t. IsRecorded (walked t.next ss) in
     let later : IsRecorded (walked (f r).next rs) = record { fit = All-tail Fit (st, r) _ a.fit; used = a.used; whole = a.whole } in

@@ -15,10 +15,11 @@ use Rattle.pld_driver.proofs.Walks.{pick}
 use Rattle.fabric_run.specs.Shown.{shown}
 use Rattle.fabric_core.specs.Runs.{RunValue, setup_for, state_of}
 use Rattle.fabric_core.specs.declared.fabric.Record.{Record}
+use Rattle.pld_runner.specs.Orders.{Plain}
 use Rattle.pld_session.specs.States.{State, at_first}
-use Rattle.pld_session.specs.Answers.{answer, Fits}
+use Rattle.pld_session.specs.Answers.{answer}
 use Rattle.pld_reply.specs.Summary.{summary}
-use Rattle.pld_session.specs.Runs.{shown_by}
+use Rattle.pld_session.specs.Runs.{shown_by, FitsRun}
 use Rattle.pld_session.specs.Headline.{SessionEnds}
 use Rattle.pld_session.specs.Large.{holding_text, holding_nothing, TextSession, IsSummed, IsBroken, IsPlainRun}
 
@@ -42,15 +43,15 @@ walks_recorded step st [] rs = refl
 walks_recorded step st (p ∷ later) rs =
     quit_recorded (is_quit p.said) rs _ (after_recorded (step st p) st rs (λ next rest. walk step next later rest) (λ next rs'. walks_recorded step next later rs'))
 
-plain_runs : (runs : List (State × Record)) → All (λ run. Fits run.0 run.1) runs → All IsPlainRun (map (λ run. run.1) runs)
+plain_runs : (runs : List (State × Record)) → All (λ run. FitsRun Plain run.0 run.1) runs → All IsPlainRun (map (λ run. run.1) runs)
 plain_runs [] h = All-nil IsPlainRun
 plain_runs (run ∷ runs) h =
-    let Fit : State × Record → Type 0 = λ r. Fits r.0 r.1 in
-    let fit : Fits run.0 run.1 = All-head Fit run runs h in
+    let Fit : State × Record → Type 0 = λ r. FitsRun Plain r.0 r.1 in
+    let fit : FitsRun Plain run.0 run.1 = All-head Fit run runs h in
     All-cons IsPlainRun run.1 (map (λ r. r.1) runs) (record { plain = fit.ordered; over = fit.over }) (plain_runs runs (All-tail Fit run runs h))
 
 -- each record that such a session leaves is that of a whole run of one worker
-pub records_plain : (rounds : ℕ) (before after : Moment Record) → SessionEnds rounds before after Fine → All IsPlainRun after.bench.records.items
+pub records_plain : (rounds : ℕ) (before after : Moment Record) → SessionEnds Plain rounds before after Fine → All IsPlainRun after.bench.records.items
 records_plain rounds before after ends =
     let walked : Walked State Record = session answer (at_first rounds) ends.taken true after.bench.records.items in
     let all : map (λ run. run.1) walked.runs ≡ after.bench.records.items =
@@ -71,16 +72,16 @@ pub sink_holds : (put : List ℕ) (failed : Bool) (faults : ℕ) → put ≡ [] 
 sink_holds put failed faults p f n = λ i. record { put = p i; failed = f i; written = Some (p i); faults = n i }
 
 pub text_session : (rounds : ℕ) (text : List ℕ) (st : State) (source source' : SourceState) (sink sink' : SinkState) (before after : Bench Record) (status : Status)
-    → source ≡ holding_text text → sink ≡ holding_nothing → st ≡ at_first rounds → Outcome answer Fits st (moment_of source sink before) (moment_of source' sink' after) status
+    → source ≡ holding_text text → sink ≡ holding_nothing → st ≡ at_first rounds → Outcome answer (FitsRun Plain) st (moment_of source sink before) (moment_of source' sink' after) status
     → TextSession rounds text before after.permits after.records.items status
 text_session rounds text st source source' sink sink' before after status s k h ends = record {
   source = source';
   sink = sink';
   bench = after;
   ends =
-      let first : Outcome answer Fits st (moment_of (holding_text text) sink before) (moment_of source' sink' after) status = subst (λ x. Outcome answer Fits st (moment_of x sink before) (moment_of source' sink' after) status) s ends in
-      let second : Outcome answer Fits st (moment_of (holding_text text) holding_nothing before) (moment_of source' sink' after) status = subst (λ x. Outcome answer Fits st (moment_of (holding_text text) x before) (moment_of source' sink' after) status) k first in
-      subst (λ x. Outcome answer Fits x (moment_of (holding_text text) holding_nothing before) (moment_of source' sink' after) status) h second;
+      let first : Outcome answer (FitsRun Plain) st (moment_of (holding_text text) sink before) (moment_of source' sink' after) status = subst (λ x. Outcome answer (FitsRun Plain) st (moment_of x sink before) (moment_of source' sink' after) status) s ends in
+      let second : Outcome answer (FitsRun Plain) st (moment_of (holding_text text) holding_nothing before) (moment_of source' sink' after) status = subst (λ x. Outcome answer (FitsRun Plain) st (moment_of (holding_text text) x before) (moment_of source' sink' after) status) k first in
+      subst (λ x. Outcome answer (FitsRun Plain) x (moment_of (holding_text text) holding_nothing before) (moment_of source' sink' after) status) h second;
   spent = refl;
   left = refl;
 }

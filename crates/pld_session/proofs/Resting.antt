@@ -27,7 +27,8 @@ use Rattle.fabric_plan.specs.Plans.{Given, plan_of}
 use Rattle.fabric_plan.specs.Wiring.{design_network}
 use Rattle.fabric_plan.specs.Runnable.{IsRunnable, KeepMeaning}
 use Rattle.pld_session.specs.States.{State}
-use Rattle.pld_session.specs.Runs.{meanings, given_in, plan_in, shown_by, Order, FitsRun}
+use Rattle.pld_runner.specs.Orders.{Order}
+use Rattle.pld_session.specs.Runs.{meanings, given_in, plan_in, shown_by, FitsRun}
 use Rattle.pld_session.specs.Laws.{network_in, allowed_in, RestsAgree, RunsKeepTheirPromise, EnoughIsEnough, LeavesHoldTheTables}
 
 abbrev pub PlansAreDesigns : Type 0

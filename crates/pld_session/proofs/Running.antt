@@ -44,8 +44,9 @@ use Rattle.pld_driver.specs.declared.engine.Bench.{Bench}
 use Rattle.pld_reply.specs.declared.refusals.Refusal.TheVariants as refusal
 use Rattle.build_cache.specs.Pairs.{Pair}
 use Rattle.pld_session.specs.States.{State, BuildValue, IsBuild, CanBuild, images, leaves}
-use Rattle.pld_session.specs.Runs.{meanings, feeds, given_in, ran_reply, end_of, counts_of, Plain, FitsRun, FitsNow, holding}
-use Rattle.pld_session.specs.Answers.{runs, runs_built, ran, after_run, refuses, most_runs, Fits}
+use Rattle.pld_runner.specs.Orders.{Order}
+use Rattle.pld_session.specs.Runs.{meanings, feeds, given_in, ran_reply, end_of, counts_of, FitsRun, FitsNow, holding}
+use Rattle.pld_session.specs.Answers.{runs, runs_built, ran, after_run, refuses, most_runs}
 
 -- what the laws below tell
 pub record Laws : Type 0 where
@@ -259,12 +260,12 @@ same_counts a b r p d c =
     ∙ ap (λ x. record { rounds = b.rounds; packets = b.packets; deflected = b.deflected; configs = x }) c
 
 -- a record that fits what a state holds fits the state
-pub fits_state : (st : State) (run : Record) → FitsNow st.rounds st.draft st.standing run → FitsRun Plain st run
-fits_state st run h = record { plan = h.plan; runnable = h.runnable; means = h.means; legal = h.legal; over = h.over; ordered = h.ordered }
+pub fits_state : (order : Order) (st : State) (run : Record) → FitsNow order st.rounds st.draft st.standing run → FitsRun order st run
+fits_state order st run h = record { plan = h.plan; runnable = h.runnable; means = h.means; legal = h.legal; over = h.over; ordered = h.ordered }
 
 -- a run leaves rows for a tree of the design's depth
-pub left_stand : (rounds : ℕ) (d : DraftState) (standing left : List (Option Row)) (run : Record) → FitsNow rounds d standing run → AreStanding run.plan.depth left → AreStanding d.design.depth left
-left_stand rounds d standing left run fit h = subst (λ (p : PlanValue). AreStanding p.depth left) fit.plan h
+pub left_stand : (order : Order) (rounds : ℕ) (d : DraftState) (standing left : List (Option Row)) (run : Record) → FitsNow order rounds d standing run → AreStanding run.plan.depth left → AreStanding d.design.depth left
+left_stand order rounds d standing left run fit h = subst (λ (p : PlanValue). AreStanding p.depth left) fit.plan h
 
 -- what was written is the reply
 pub said : (names outs : List (List ℕ)) (d : DraftState) (run : RunValue) (old reply : List ℕ)
@@ -283,21 +284,21 @@ recorded old mid new made run e p plan journal =
     p ∙ ap (λ l. l ++ made ∷ []) e ∙ ap (λ x. old ++ (record { plan = x; journal = made.journal }) ∷ []) plan ∙ ap (λ x. old ++ (record { plan = run.plan; journal = x }) ∷ []) journal
 
 -- a run that isn't made leaves nothing
-pub not_yet : (st : State) (number : ℕ) (old new : Bench Record) → st.built ≡ true → nat_lt st.runs most_runs ≡ true → new.records.items ≡ old.records.items → new.permits ≡ old.permits → Broke (runs st number) (Fits st) old new
-not_yet st number old new built few records permits =
+pub not_yet : (order : Order) (st : State) (number : ℕ) (old new : Bench Record) → st.built ≡ true → nat_lt st.runs most_runs ≡ true → new.records.items ≡ old.records.items → new.permits ≡ old.permits → Broke (runs st number) (FitsRun order st) old new
+not_yet order st number old new built few records permits =
     let Built : Bool → Step State Record = λ b. if b then runs_built st number else Says (refuses st number refusal.NotBuilt) in
     let Few : Bool → Step State Record = λ b. if b then Runs (ran st) else Says (refuses st number refusal.TooManyRuns) in
-    subst (λ x. Broke x (Fits st) old new) (sym (ap Built built ∙ ap Few few)) (inl (records, permits))
+    subst (λ x. Broke x (FitsRun order st) old new) (sym (ap Built built ∙ ap Few few)) (inl (records, permits))
 
 pub on_err : {A E : Type 0} {P : Type 0} (r : Result A E) → P → OnErr r P
 on_err (Ok x) h = tt
 on_err (Err e) h = h
 
 -- a run was made, and its record left
-pub took : (st : State) (number : ℕ) (run : Record) (old new : Bench Record) (reply : List ℕ) (next : State) → st.built ≡ true → nat_lt st.runs most_runs ≡ true → FitsRun Plain st run
-    → new.records.items ≡ old.records.items ++ run ∷ [] → new.permits ≡ old.permits → reply ≡ ran_reply st.draft run → next ≡ after_run st run → Took (runs st number) (Fits st) old new reply false next
-took st number run old new reply next built few fit records permits said state =
+pub took : (order : Order) (st : State) (number : ℕ) (run : Record) (old new : Bench Record) (reply : List ℕ) (next : State) → st.built ≡ true → nat_lt st.runs most_runs ≡ true → FitsRun order st run
+    → new.records.items ≡ old.records.items ++ run ∷ [] → new.permits ≡ old.permits → reply ≡ ran_reply st.draft run → next ≡ after_run st run → Took (runs st number) (FitsRun order st) old new reply false next
+took order st number run old new reply next built few fit records permits said state =
     let Built : Bool → Step State Record = λ b. if b then runs_built st number else Says (refuses st number refusal.NotBuilt) in
     let Few : Bool → Step State Record = λ b. if b then Runs (ran st) else Says (refuses st number refusal.TooManyRuns) in
     let same : runs st number ≡ Runs (ran st) = ap Built built ∙ ap Few few in
-    subst (λ x. Took x (Fits st) old new reply false next) (sym same) (run, record { fit = fit; last = records }, record { says = said; flag = refl; state = state; spent = omega (arith, permits) })
+    subst (λ x. Took x (FitsRun order st) old new reply false next) (sym same) (run, record { fit = fit; last = records }, record { says = said; flag = refl; state = state; spent = omega (arith, permits) })

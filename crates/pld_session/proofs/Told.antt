@@ -29,7 +29,9 @@ use Rattle.pld_graph.specs.Sound.{IsSound}
 use Rattle.pld_draft.specs.declared.parts.Source.{Source}
 use Rattle.pld_draft.specs.Draft.{IsKept, entry_ports, source_ports}
 use Rattle.pld_build.specs.Images.{image_of, compiles}
-use Rattle.pld_session.specs.Answers.{answer_to, builds, builds_if, builds_closed, edits, edits_to, dumps, dumps_at, dumps_tables, placed_pages, no_image, refuses, Fits}
+use Rattle.pld_runner.specs.Orders.{Order}
+use Rattle.pld_session.specs.Runs.{FitsRun}
+use Rattle.pld_session.specs.Answers.{answer_to, builds, builds_if, builds_closed, edits, edits_to, dumps, dumps_at, dumps_tables, placed_pages, no_image, refuses}
 use Rattle.pld_session.specs.States.{State, BuildValue, IsBuild, images, tables, with_pairs}
 use Rattle.pld_session.specs.Steps.{Tells, TellsEdit, Makes}
 
@@ -173,10 +175,10 @@ module _ (st : State) (number : ℕ) (some : nat_le (length st.draft.sources) 0 
   build_spends old new enough least most = subst (λ (a : Answered State). Spends old new a.permits) (sym (done_is enough)) (least, most)
 
   -- there are more operators than pages
-  pub build_refused : (operators leaves : ℕ) (old new : Bench Record) (reply : List ℕ) (refused : Bool) (next : State) → next ≡ st → pages st.draft.design < length st.draft.sources → operators ≡ length st.draft.sources → leaves ≡ pages st.draft.design
+  pub build_refused : (order : Order) (operators leaves : ℕ) (old new : Bench Record) (reply : List ℕ) (refused : Bool) (next : State) → next ≡ st → pages st.draft.design < length st.draft.sources → operators ≡ length st.draft.sources → leaves ≡ pages st.draft.design
       → new.records.items ≡ old.records.items → new.permits ≡ old.permits → (refused ≡ true) × (reply ≡ refused_reply number (refusal.TooFewPages operators leaves))
-      → Took (answer_to st number (Some statement.Build)) (Fits st) old new reply refused next
-  build_refused operators leaves old new reply refused next same lack o p records permits told =
+      → Took (answer_to st number (Some statement.Build)) (FitsRun order st) old new reply refused next
+  build_refused order operators leaves old new reply refused next same lack o p records permits told =
       subst (λ (a : Answered State). IsAnswer a old.permits new.permits reply refused next × (new.records.items ≡ old.records.items)) (sym (few_is lack)) (
         record {
           says = told.1 ∙ ap (λ n. refused_reply number (refusal.TooFewPages n leaves)) o ∙ ap (λ n. refused_reply number (refusal.TooFewPages (length st.draft.sources) n)) p;

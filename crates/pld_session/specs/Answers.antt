@@ -30,7 +30,7 @@ use Rattle.pld_script.specs.Edits.{is_of_words}
 use Rattle.pld_script.specs.Statements.{Placed}
 use Rattle.pld_driver.specs.Walk.{Answered, Step, Says, Runs}
 use Rattle.pld_session.specs.States.{State, images, leaves, tables, with_pairs}
-use Rattle.pld_session.specs.Runs.{ran_reply, end_of, counts_of, Plain, FitsRun}
+use Rattle.pld_session.specs.Runs.{ran_reply, end_of, counts_of}
 
 -- the statement is refused, and nothing changes
 abbrev pub refuses : State → ℕ → Refusal → Answered State
@@ -162,7 +162,3 @@ answer_to st number (Some says.Quit) = Says (says_nothing st)
 
 abbrev pub answer : State → Placed → Step State Record
 answer st placed = answer_to st placed.number placed.said
-
--- the record is one that a run of one worker from this state leaves
-abbrev pub Fits : State → Record → Type 0
-Fits st run = FitsRun Plain st run

@@ -10,6 +10,7 @@ use Rattle.fabric_run.specs.Replay.{outcome, IsPlain}
 use Rattle.fabric_run.specs.Trees.{tree_setup}
 use Rattle.fabric_core.specs.declared.fabric.Record.{Record}
 use Rattle.pld_reply.specs.Summary.{summary}
+use Rattle.pld_runner.specs.Orders.{Plain}
 use Rattle.pld_session.specs.Runs.{end_of, shown_by}
 use Rattle.pld_session.specs.Headline.{SessionEnds}
 
@@ -26,7 +27,7 @@ pub record TextSession (rounds : ℕ) (text : List ℕ) (before : Bench Record) 
   pub source : SourceState
   pub sink : SinkState
   pub bench : Bench Record
-  pub ends : SessionEnds rounds (moment_of (holding_text text) holding_nothing before) (moment_of source sink bench) status
+  pub ends : SessionEnds Plain rounds (moment_of (holding_text text) holding_nothing before) (moment_of source sink bench) status
   pub spent : bench.permits ≡ permits
   pub left : bench.records.items ≡ records
 

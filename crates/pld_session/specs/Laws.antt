@@ -22,18 +22,19 @@ use Rattle.pld_driver.specs.declared.status.Status.{Status}
 use Rattle.pld_draft.specs.Draft.{DraftState}
 use Rattle.fabric_plan.specs.Plans.{allowed}
 use Rattle.fabric_plan.specs.Wiring.{design_network}
+use Rattle.pld_runner.specs.Orders.{Order, Plain}
 use Rattle.pld_session.specs.States.{State, at_first, images, tables}
-use Rattle.pld_session.specs.Answers.{answer, Fits}
-use Rattle.pld_session.specs.Runs.{meanings, feeds, end_of, shown_by, ran_reply, Order, FitsRun}
+use Rattle.pld_session.specs.Answers.{answer}
+use Rattle.pld_session.specs.Runs.{meanings, feeds, end_of, shown_by, ran_reply, FitsRun}
 use Rattle.pld_session.specs.Headline.{SessionEnds}
 
--- Each run has its record, which fits, and there are no other records.
+-- Each run has its record, which fits a run of one worker, and there are no other records.
 pub record IsRecorded (all : Walked State Record) : Type 0 where
-  pub fit : All (λ run. Fits run.0 run.1) all.runs
+  pub fit : All (λ run. FitsRun Plain run.0 run.1) all.runs
   pub used : all.left ≡ []
   pub whole : all.whole ≡ true
 
--- Whatever the records of its runs, the replies to a text are the same.
+-- Whatever the records of its runs by one worker, the replies to a text are the same.
 abbrev pub RepliesAgree : Type 0
 RepliesAgree =
     (rounds : ℕ) (bytes : List ℕ) (records other : List Record) → IsRecorded (session answer (at_first rounds) bytes true records) → IsRecorded (session answer (at_first rounds) bytes true other)
@@ -41,7 +42,7 @@ RepliesAgree =
 
 -- The statuses are exact: of a session that ended so, what was taken and written leaves one status, or want of memory.
 abbrev pub StatusesAreExact : Type 0
-StatusesAreExact = (rounds : ℕ) (before after : Moment Record) (result : Status) (ends : SessionEnds rounds before after result) → IsExact answer (at_first rounds) before after ends.taken result
+StatusesAreExact = (order : Order) (rounds : ℕ) (before after : Moment Record) (result : Status) (ends : SessionEnds order rounds before after result) → IsExact answer (at_first rounds) before after ends.taken result
 
 -- ---- runs, whatever the order of their entries
 

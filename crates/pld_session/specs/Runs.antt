@@ -10,7 +10,7 @@ use Rattle.pld_build.specs.Images.{meaning_of}
 use Rattle.fabric_run.specs.declared.entry.Entry.{Entry}
 use Rattle.fabric_run.specs.Plan.{PlanValue}
 use Rattle.fabric_run.specs.World.{State as RunState, changes}
-use Rattle.fabric_run.specs.Replay.{replay, outcome, IsLegal, IsPlain}
+use Rattle.fabric_run.specs.Replay.{replay, outcome, IsLegal}
 use Rattle.fabric_run.specs.Reply.{reply, name_in}
 use Rattle.fabric_run.specs.Shown.{Shown, shown}
 use Rattle.fabric_run.specs.Trees.{tree_setup}
@@ -18,6 +18,7 @@ use Rattle.fabric_core.specs.declared.counts.Counts.{Counts}
 use Rattle.fabric_core.specs.declared.fabric.Record.{Record}
 use Rattle.fabric_plan.specs.Plans.{Given, plan_of}
 use Rattle.fabric_plan.specs.Runnable.{IsRunnable, KeepMeaning}
+use Rattle.pld_runner.specs.Orders.{Order, IsOrdered}
 use Rattle.pld_session.specs.States.{State, images, leaves}
 
 -- what the operators mean, in the order of declaration
@@ -61,15 +62,6 @@ counts_of run = record {
 abbrev pub ran_reply : DraftState → Record → List ℕ
 ran_reply d run = reply (name_in (operator_names d.design)) (name_in (outputs d.design.channels)) (length run.plan.pages) run.plan.outs (shown_by run)
 
--- In which order the entries of a journal stand: those of one worker, who takes the pages in ascending order of their leaves; or any order.
-pub data Order : Type 0 where
-  Plain : Order
-  Any : Order
-
-abbrev pub IsOrdered : Order → PlanValue → List Entry → Type 0
-IsOrdered Plain plan journal = IsPlain (tree_setup plan) journal
-IsOrdered Any plan journal = Unit {0}
-
 -- The record of a run fits the session's state: its plan is that of the design as it stands, which can be run and whose images do what its
 -- operators mean; each entry of its journal is legal in the state after those before it, the last state is the first that is over, and the entries
 -- stand in this order.
@@ -85,6 +77,6 @@ pub record FitsRun (order : Order) (st : State) (run : Record) : Type 0 where
 abbrev pub holding : ℕ → DraftState → List (Option Row) → State
 holding rounds d standing = record { rounds = rounds; draft = d; compiled = []; built = true; standing = standing; runs = 0; counted = None }
 
--- the record of a run of one worker fits a state that holds this
-abbrev pub FitsNow : ℕ → DraftState → List (Option Row) → Record → Type 0
-FitsNow rounds d standing run = FitsRun Plain (holding rounds d standing) run
+-- the record of a run fits a state that holds this
+abbrev pub FitsNow : Order → ℕ → DraftState → List (Option Row) → Record → Type 0
+FitsNow order rounds d standing run = FitsRun order (holding rounds d standing) run

@@ -12,6 +12,7 @@ ghost use Rattle.pld_session.specs.States.{Builds};
 ghost use Rattle.pld_session.specs.Answers.{pages_from};
 
 use net_switch::Row;
+use par_build::Compile;
 use pld_base::{NoMemory, PageId, Permits, Refused};
 use pld_build::Compiler;
 use pld_draft::{Draft, Source};
@@ -39,14 +40,16 @@ impl Model for Build {
     ghost view = { λ b. record { images = b.images.items; leaves = b.placement; tables = b.tables.items } };
 }
 
-/// The full build of a design, and how many images were compiled, each with one of these permits: those of the pairs of kind and
+/// The full build of a design, and how many images `maker` compiled, each with one of these permits: those of the pairs of kind and
 /// text that weren't compiled before. There are more operators than pages exactly where it says so.
-pub fn build_design(
+pub fn build_design<M: Compile>(
     alloc: Global,
+    maker: &M,
     permits: &mut Permits,
     compiler: &mut Compiler,
     draft: &Draft,
 ) -> Result<(Build, u64), Refused<TooFewPages>>
+    requires ready { M.ready }
     requires an_operator { 1 ≤ length draft.now.sources }
     requires closed { open_port draft.now.design ≡ None }
     requires room { permits.old + length draft.now.sources < 2 ^ 64 }
@@ -57,21 +60,23 @@ pub fn build_design(
     let sources = draft.sources();
     let _operators = graph.operators();
     let placement = place(alloc, graph)?;
-    match make_build(alloc, permits, compiler, graph, sources, placement) {
+    match make_build(alloc, maker, permits, compiler, graph, sources, placement) {
         Ok(made) => Ok(made),
         Err(NoMemory) => Err(Refused::NoMemory),
     }
 }
 
 // The full build of a design that is placed so.
-fn make_build(
+fn make_build<M: Compile>(
     alloc: Global,
+    maker: &M,
     permits: &mut Permits,
     compiler: &mut Compiler,
     graph: &Graph,
     sources: &[Source],
     placement: Placement,
 ) -> Result<(Build, u64), NoMemory>
+    requires ready { M.ready }
     requires placed { IsPlacement graph.now placement }
     requires read { All IsRead sources.now }
     requires room { permits.old + length sources.now < 2 ^ 64 }
@@ -84,7 +89,7 @@ fn make_build(
     ensures err { OnErr result ((permits.old ≤ permits.new) × (permits.new ≤ permits.old + compiles compiler.old sources.now)) }
 {
     let tables = tables(alloc, graph, placement.leaf_of())?;
-    let built = compiler.build(alloc, permits, sources)?;
+    let built = compiler.build(alloc, maker, permits, sources)?;
     let made = Build {
         images: built.images,
         placement,

@@ -13,7 +13,7 @@ use fabric_core::{Fabric, Record, run_plain};
 use fabric_tree::plain_runs_over_the_tree_are_one;
 use pld_base::NoMemory;
 use pld_driver::{Status, put_all, run};
-use pld_io::{MemSink, MemSource, Sink};
+use pld_io::{MemSink, MemSource, OpenGate, Sink};
 use pld_reply::put_summary;
 use pld_script::gen_script;
 use std::alloc::Global;
@@ -71,7 +71,14 @@ fn run_text(
     let mut source = MemSource::new(text, Vec::new(alloc), PIECE);
     let mut replies = MemSink::new(alloc, Vec::new(alloc), ROOM)?;
     let mut session = Session::new(alloc, rounds);
-    Ok(run(alloc, &mut source, &mut replies, &mut session, bench))
+    Ok(run(
+        alloc,
+        &mut source,
+        &mut replies,
+        &OpenGate,
+        &mut session,
+        bench,
+    ))
 }
 
 /// Makes the session with this number, and gives the line about its run.

@@ -14,7 +14,7 @@ ghost use Rattle.pld_session.specs.States.{IsBuild, images as images_of};
 ghost use Rattle.pld_session.specs.Runs.{feeds as feeds_of, meanings, given_in, holding, FitsNow};
 
 use crate::build::Build;
-use fabric_core::{Fabric, Feed, run_plain};
+use fabric_core::{Fabric, Feed};
 use fabric_plan::{allowed, plan, plans_are_designs};
 use net_switch::Row;
 use pld_base::{Name, NoMemory};
@@ -22,7 +22,9 @@ use pld_build::{images_are_forms, images_keep_the_meaning, sources_are_processes
 use pld_draft::Draft;
 use pld_graph::Graph;
 use pld_image::{Image, cores_are_processes};
+use pld_io::Gate;
 use pld_place::operators_have_leaves;
+use pld_runner::Runner;
 use std::alloc::Global;
 
 /// The names of the operators, in the order of declaration.
@@ -147,20 +149,23 @@ fn built_designs_run(
     let _operators = graph.operators();
 }
 
-/// Runs a design as it was built, with the words of its inputs, where these rows stand at the leaves; a run may make so many
+/// Has a design run as it was built, with the words of its inputs, where these rows stand at the leaves; a run may make so many
 /// rounds. All memory of the run is taken before its first entry.
-pub fn run_design(
+pub fn run_design<X: Runner>(
     alloc: Global,
+    runner: &X,
+    gate: &(dyn Gate + Sync),
     rounds: u64,
     draft: &Draft,
     build: &Build,
     standing: &[Option<Row>],
 ) -> Result<Fabric, NoMemory>
+    requires ready { X.ready }
     requires some { 1 ≤ rounds }
     requires most { rounds ≤ 1000000 }
     requires built { IsBuild draft.now build.now }
     requires standing { AreStanding draft.now.design.depth standing.now }
-    ensures fits { IfOk result (λ fabric. FitsNow rounds draft.now standing.now (record { plan = fabric.plan; journal = fabric.journal })) }
+    ensures fits { IfOk result (λ fabric. FitsNow X.order rounds draft.now standing.now (record { plan = fabric.plan; journal = fabric.journal })) }
     ensures pages { IfOk result (λ fabric. length fabric.plan.pages ≡ length draft.now.design.operators) }
 {
     plans_are_designs();
@@ -172,7 +177,7 @@ pub fn run_design(
     built_designs_run(rounds, draft, build, standing, &feeds);
     let leaves = build.placement.leaf_of();
     let plan = plan(alloc, graph, leaves, images, before, tables, feeds, rounds)?;
-    let fabric = run_plain(Fabric::prepare(alloc, plan)?);
+    let fabric = runner.run(alloc, Fabric::prepare(alloc, plan)?, gate)?;
     fabric.is_legal();
     Ok(fabric)
 }

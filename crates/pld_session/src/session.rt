@@ -2,7 +2,8 @@
 
 ghost use Rattle.std.specs.Prelude.{◌≡◌, ◌≤◌, ◌^◌, ◌+◌, ◌<◌, [], Some, None, IfOk, OnErr};
 ghost use Rattle.pld_session.specs.States.{at_first};
-ghost use Rattle.pld_session.specs.Answers.{answer_to, edits, dumps, dumps_tables, stats as told_counts, Fits};
+ghost use Rattle.pld_session.specs.Answers.{answer_to, edits, dumps, dumps_tables, stats as told_counts};
+ghost use Rattle.pld_session.specs.Runs.{FitsRun};
 ghost use Rattle.pld_reply.specs.declared.refusals.Refusal.TheVariants as refusal;
 ghost use Rattle.pld_session.specs.Steps.{Makes, Tells};
 ghost use Rattle.pld_driver.specs.Moments.{Took, Broke};
@@ -13,15 +14,18 @@ use crate::runs::{operator_names, output_names, reply_room, rows_room, run_desig
 use fabric_core::{Counts, Record};
 use fabric_plan::leave_rows;
 use net_switch::Row;
+use par_build::Compile;
 use pld_base::{Name, NoMemory, Refused};
 use pld_build::{Compiler, pairs_are_few};
 use pld_draft::{Draft, EditFault};
-use pld_driver::{Bench, Engine};
+use pld_driver::Bench;
 use pld_graph::GraphFault;
 use pld_image::image_bytes;
+use pld_io::Gate;
 use pld_link::rows_stand_in_order;
 use pld_place::{TooFewPages, operators_have_leaves};
 use pld_reply::{Refusal, put_built, put_image, put_run, put_stats, put_tables};
+use pld_runner::Runner;
 use pld_script::{Edit, Statement};
 use std::alloc::Global;
 use std::marker::Model;
@@ -115,17 +119,19 @@ impl Session {
     }
 
     /// Builds the design: compiles each pair of kind and text that no build of the session has compiled yet, once.
-    fn build(
+    fn build<X: Compile + Runner>(
         &mut self,
         alloc: Global,
+        maker: &X,
         number: u64,
         bench: &mut Bench<Record>,
         reply: &mut Vec<u8>,
     ) -> Result<bool, NoMemory>
+        requires ready { X.Compile.ready }
         requires empty { reply.old.items ≡ [] }
         requires room { bench.old.permits + 64 < 2 ^ 64 }
-        ensures ok { IfOk result (λ refused. Took (answer_to self.old number (Some Statement.Build)) (Fits self.old) bench.old bench.new reply.new.items refused self.new) }
-        ensures err { OnErr result (Broke (answer_to self.old number (Some Statement.Build)) (Fits self.old) bench.old bench.new) }
+        ensures ok { IfOk result (λ refused. Took (answer_to self.old number (Some Statement.Build)) (FitsRun X.order self.old) bench.old bench.new reply.new.items refused self.new) }
+        ensures err { OnErr result (Broke (answer_to self.old number (Some Statement.Build)) (FitsRun X.order self.old) bench.old bench.new) }
         ensures few { bench.new.permits ≤ bench.old.permits + 64 }
     {
         pairs_are_few();
@@ -138,7 +144,13 @@ impl Session {
             return refuse(number, Refusal::OpenPort(open), reply);
         }
         let _operators = graph.operators();
-        match build_design(alloc, &mut bench.permits, &mut self.compiler, &self.draft) {
+        match build_design(
+            alloc,
+            maker,
+            &mut bench.permits,
+            &mut self.compiler,
+            &self.draft,
+        ) {
             Err(Refused::NoMemory) => Err(NoMemory),
             Err(Refused::Fault(few)) => refuse(number, too_few(few), reply),
             Ok((build, compiled)) => {
@@ -204,16 +216,19 @@ impl Session {
 
     /// Runs the design as it was built, with the words of its inputs as they stand. Room for the reply, for the record and for
     /// the rows that the run leaves is taken before the run.
-    fn run(
+    fn run<X: Runner>(
         &mut self,
         alloc: Global,
+        runner: &X,
+        gate: &(dyn Gate + Sync),
         number: u64,
         bench: &mut Bench<Record>,
         reply: &mut Vec<u8>,
     ) -> Result<bool, NoMemory>
-        requires { reply.old.items ≡ [] }
-        ensures ok { IfOk result (λ refused. Took (answer_to self.old number (Some Statement.Run)) (Fits self.old) bench.old bench.new reply.new.items refused self.new) }
-        ensures err { OnErr result (Broke (answer_to self.old number (Some Statement.Run)) (Fits self.old) bench.old bench.new) }
+        requires ready { X.ready }
+        requires empty { reply.old.items ≡ [] }
+        ensures ok { IfOk result (λ refused. Took (answer_to self.old number (Some Statement.Run)) (FitsRun X.order self.old) bench.old bench.new reply.new.items refused self.new) }
+        ensures err { OnErr result (Broke (answer_to self.old number (Some Statement.Run)) (FitsRun X.order self.old) bench.old bench.new) }
         ensures few { bench.new.permits ≤ bench.old.permits + 64 }
     {
         let Some(build) = &self.build else {
@@ -229,7 +244,15 @@ impl Session {
         bench.records.reserve(1)?;
         reply.reserve(reply_room(graph, self.rounds))?;
         let mut left = rows_room(alloc)?;
-        let fabric = run_design(alloc, self.rounds, &self.draft, build, &self.standing)?;
+        let fabric = run_design(
+            alloc,
+            runner,
+            gate,
+            self.rounds,
+            &self.draft,
+            build,
+            &self.standing,
+        )?;
         put_run(reply, names.as_slice(), outputs.as_slice(), &fabric)?;
         leave_rows(&fabric, &mut left);
         self.standing = left;
@@ -240,24 +263,28 @@ impl Session {
     }
 
     /// Answers a statement. `quit` has no reply; the driver ends the session there.
-    fn answer_statement(
+    pub fn answer_statement<X: Compile + Runner>(
         &mut self,
         alloc: Global,
+        maker: &X,
+        gate: &(dyn Gate + Sync),
         number: u64,
         statement: Statement,
         bench: &mut Bench<Record>,
         reply: &mut Vec<u8>,
     ) -> Result<bool, NoMemory>
+        requires images { X.Compile.ready }
+        requires runs { X.Runner.ready }
         requires empty { reply.old.items ≡ [] }
         requires room { bench.old.permits + 64 < 2 ^ 64 }
-        ensures ok { IfOk result (λ refused. Took (answer_to self.old number (Some statement)) (Fits self.old) bench.old bench.new reply.new.items refused self.new) }
-        ensures err { OnErr result (Broke (answer_to self.old number (Some statement)) (Fits self.old) bench.old bench.new) }
+        ensures ok { IfOk result (λ refused. Took (answer_to self.old number (Some statement)) (FitsRun X.order self.old) bench.old bench.new reply.new.items refused self.new) }
+        ensures err { OnErr result (Broke (answer_to self.old number (Some statement)) (FitsRun X.order self.old) bench.old bench.new) }
         ensures few { bench.new.permits ≤ bench.old.permits + 64 }
     {
         match statement {
             Statement::Edit(edit) => self.edit(alloc, number, edit, reply),
-            Statement::Build => self.build(alloc, number, bench, reply),
-            Statement::Run => self.run(alloc, number, bench, reply),
+            Statement::Build => self.build(alloc, maker, number, bench, reply),
+            Statement::Run => self.run(alloc, maker, gate, number, bench, reply),
             Statement::DumpImage(name) => self.dump_image(alloc, number, name, reply),
             Statement::DumpTables => self.dump_tables(alloc, number, reply),
             Statement::Stats => self.stats(number, reply),
@@ -273,29 +300,5 @@ fn too_few(few: TooFewPages) -> Refusal
     Refusal::TooFewPages {
         operators: u64::from(few.operators),
         pages: u64::from(few.pages),
-    }
-}
-
-impl Engine for Session {
-    ghost use Rattle.pld_session.specs.Answers.{answer, Fits};
-
-    type Record = Record;
-
-    ghost step = { answer };
-
-    ghost fits = { Fits };
-
-    fn answer(
-        &mut self,
-        alloc: Global,
-        number: u64,
-        said: Option<Statement>,
-        bench: &mut Bench<Record>,
-        reply: &mut Vec<u8>,
-    ) -> Result<bool, NoMemory> {
-        match said {
-            None => refuse(number, Refusal::BadLine, reply),
-            Some(statement) => self.answer_statement(alloc, number, statement, bench, reply),
-        }
     }
 }

@@ -1,7 +1,7 @@
 //! Words that are no command. What `pld` puts on standard error stands on standard output.
 #![tactic(auto)]
 
-use pld_io::{ReadSource, WriteSink};
+use pld_io::{OpenGate, ReadSource, WriteSink};
 use pld_program::program;
 use pld_session::Bench;
 use std::io;
@@ -12,5 +12,5 @@ fn main(rt: HostRuntime) -> ExitCode {
     let mut sink = WriteSink::new(io::writer(&rt));
     let mut errors = WriteSink::new(io::writer(&rt));
     let mut bench = Bench::new(rt.alloc());
-    program(&rt, &mut source, &mut sink, &mut errors, &mut bench)
+    program(&rt, &mut source, &mut sink, &mut errors, &OpenGate, &mut bench)
 }

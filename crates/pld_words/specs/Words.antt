@@ -2,11 +2,11 @@
 use Rattle.std.specs.Prelude.{ℕ, ◌≤◌, ◌+◌, ◌-◌, ◌*◌, ◌==◌, ◌&&◌, nat_le, if◌then◌else◌, List, [], ◌∷◌, length, take, drop, Option, Some, None, codes}
 use Rattle.std.specs.Str.{bytes_eq}
 use Rattle.pld_words.specs.declared.arguments.Argument.{Argument}
-use Rattle.pld_words.specs.declared.arguments.Argument.TheVariants.{Number, Rounds}
+use Rattle.pld_words.specs.declared.arguments.Argument.TheVariants.{Number, Rounds, Workers}
 use Rattle.pld_words.specs.declared.arguments.Arguments.{Arguments}
 use Rattle.pld_words.specs.declared.arguments.Arguments.TheVariants.{Nothing, One, Two}
 use Rattle.pld_words.specs.declared.Command.{Command}
-use Rattle.pld_words.specs.declared.Command.TheVariants.{Plain, Big}
+use Rattle.pld_words.specs.declared.Command.TheVariants.{Plain, Work, Big}
 
 -- the value of a decimal digit
 abbrev pub digit_of : ℕ → Option ℕ
@@ -48,12 +48,20 @@ abbrev pub number_first : List (List ℕ) → Option (Argument × List (List ℕ
 number_first [] = None
 number_first (word ∷ words) = with_words Number (at_most 60 (number_of word)) words
 
--- the argument that stands in front, and the words behind it: `--rounds` with 1 to 1,000,000, or a number
+-- `--workers` with 1 to 8, or a number, that stands in front, and the words behind it
+abbrev pub workers_first : List (List ℕ) → Option (Argument × List (List ℕ))
+workers_first words =
+    elim (option_first (codes "--workers") words) [
+      | Some found ↦ with_words Workers (at_most 8 (number_of found.0)) found.1
+      | None ↦ number_first words
+    ]
+
+-- the argument that stands in front, and the words behind it: `--rounds` with 1 to 1,000,000, `--workers` with 1 to 8, or a number
 abbrev pub argument_first : List (List ℕ) → Option (Argument × List (List ℕ))
 argument_first words =
     elim (option_first (codes "--rounds") words) [
       | Some found ↦ with_words Rounds (at_most 1000000 (number_of found.0)) found.1
-      | None ↦ number_first words
+      | None ↦ workers_first words
     ]
 
 -- one argument, or two where more words stand behind the first; no command has three
@@ -81,6 +89,13 @@ plain_of (Some Nothing) = Some (Plain default_rounds)
 plain_of (Some (One (Rounds n))) = Some (Plain n)
 plain_of arguments = None
 
+-- `work` with `--workers`, and `--rounds` behind it or before it
+abbrev pub work_of : Option Arguments → Option Command
+work_of (Some (One (Workers k))) = Some (Work k default_rounds)
+work_of (Some (Two (Workers k) (Rounds n))) = Some (Work k n)
+work_of (Some (Two (Rounds n) (Workers k))) = Some (Work k n)
+work_of arguments = None
+
 -- `big` with a number, and `--rounds` behind it or before it
 abbrev pub big_of : Option Arguments → Option Command
 big_of (Some (One (Number k))) = Some (Big k default_rounds)
@@ -96,6 +111,7 @@ IsUpTo most n = (1 ≤ n) × (n ≤ most)
 abbrev pub IsArgument : Argument → Type 0
 IsArgument (Number k) = IsUpTo 60 k
 IsArgument (Rounds n) = IsUpTo 1000000 n
+IsArgument (Workers k) = IsUpTo 8 k
 
 -- arguments in their ranges
 abbrev pub AreArguments : Arguments → Type 0
@@ -103,9 +119,10 @@ AreArguments Nothing = Unit {0}
 AreArguments (One a) = IsArgument a
 AreArguments (Two a b) = IsArgument a × IsArgument b
 
--- a command with 1 to 1,000,000 rounds, and a number from 1 to 60
+-- a command with 1 to 1,000,000 rounds, 1 to 8 workers, and a number from 1 to 60
 abbrev pub IsInRange : Command → Type 0
 IsInRange (Plain rounds) = IsUpTo 1000000 rounds
+IsInRange (Work workers rounds) = IsUpTo 8 workers × IsUpTo 1000000 rounds
 IsInRange (Big number rounds) = IsUpTo 60 number × IsUpTo 1000000 rounds
 
 -- The command that these words are, None where they are none.
@@ -113,5 +130,6 @@ abbrev pub command_of : List (List ℕ) → Option Command
 command_of [] = None
 command_of (name ∷ words) =
     if bytes_eq name (codes "plain") then plain_of (arguments_of words)
+    else if bytes_eq name (codes "work") then work_of (arguments_of words)
     else if bytes_eq name (codes "big") then big_of (arguments_of words)
     else None

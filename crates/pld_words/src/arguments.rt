@@ -1,7 +1,7 @@
 //! What stands behind the name of a command.
 
 ghost use Rattle.std.specs.Prelude.{◌≡◌, MatchOption, IfSome, None, Some, map, string_bytes};
-ghost use Rattle.pld_words.specs.Words.{value_behind, option_first, number_first, argument_first, with_more, arguments_of, IsArgument, AreArguments};
+ghost use Rattle.pld_words.specs.Words.{value_behind, option_first, number_first, workers_first, argument_first, with_more, arguments_of, IsArgument, AreArguments};
 
 use super::number::number_up_to;
 
@@ -9,11 +9,14 @@ const MOST_ROUNDS: u64 = 1_000_000;
 
 const MOST_NUMBER: u64 = 60;
 
+const MOST_WORKERS: u64 = 8;
+
 /// An argument of a command.
 #[derive(Clone, Copy, PartialEq, Eq)]
 pub enum Argument {
     Number(u8),
     Rounds(u64),
+    Workers(u8),
 }
 
 /// The arguments of a command, in order. No command has more than two.
@@ -60,6 +63,21 @@ fn number(words: &[String]) -> Option<(Argument, &[String])>
     Some((Argument::Number(number as u8), rest))
 }
 
+/// The option on workers, or the number, that stands in front, and the words behind it.
+fn workers_or_number(words: &[String]) -> Option<(Argument, &[String])>
+    ensures value { MatchOption result (workers_first (map string_bytes words.now) ≡ None)
+        (λ found. workers_first (map string_bytes words.now) ≡ Some (found.0, map string_bytes found.1.now)) }
+    ensures range { IfSome result (λ found. IsArgument found.0) }
+{
+    match option(b"--workers", words) {
+        Some((value, rest)) => {
+            let workers = number_up_to(MOST_WORKERS, value)?;
+            Some((Argument::Workers(workers as u8), rest))
+        }
+        None => number(words),
+    }
+}
+
 /// The argument that stands in front, and the words behind it.
 fn read_argument(words: &[String]) -> Option<(Argument, &[String])>
     ensures value { MatchOption result (argument_first (map string_bytes words.now) ≡ None)
@@ -71,7 +89,7 @@ fn read_argument(words: &[String]) -> Option<(Argument, &[String])>
             let rounds = number_up_to(MOST_ROUNDS, value)?;
             Some((Argument::Rounds(rounds), rest))
         }
-        None => number(words),
+        None => workers_or_number(words),
     }
 }
 

@@ -7,7 +7,7 @@ mod number;
 mod tests;
 
 ghost use Rattle.std.specs.Prelude.{◌≡◌, IfSome, map, string_bytes};
-ghost use Rattle.pld_words.specs.Words.{plain_of, big_of, command_of, AreArguments, IsInRange};
+ghost use Rattle.pld_words.specs.Words.{plain_of, work_of, big_of, command_of, AreArguments, IsInRange};
 
 use arguments::{Argument, Arguments, read_arguments};
 
@@ -19,6 +19,8 @@ const DEFAULT_ROUNDS: u64 = 100_000;
 pub enum Command {
     /// A session on one thread, with this many rounds a run: 1 to 1,000,000.
     Plain { rounds: u64 },
+    /// A session whose runs are made by this many workers, 1 to 8, with this many rounds a run: 1 to 1,000,000.
+    Work { workers: u8, rounds: u64 },
     /// The big session of this number, 1 to 60, with this many rounds a run: 1 to 1,000,000.
     Big { number: u8, rounds: u64 },
 }
@@ -34,6 +36,27 @@ fn plain(arguments: Option<Arguments>) -> Option<Command>
             rounds: DEFAULT_ROUNDS,
         }),
         Arguments::One(Argument::Rounds(rounds)) => Some(Command::Plain { rounds }),
+        _ => None,
+    }
+}
+
+/// `work` with the workers, and at most the rounds behind or before them.
+fn work(arguments: Option<Arguments>) -> Option<Command>
+    requires { IfSome arguments AreArguments }
+    ensures value { result ≡ work_of arguments }
+    ensures range { IfSome result IsInRange }
+{
+    match arguments? {
+        Arguments::One(Argument::Workers(workers)) => Some(Command::Work {
+            workers,
+            rounds: DEFAULT_ROUNDS,
+        }),
+        Arguments::Two(Argument::Workers(workers), Argument::Rounds(rounds)) => {
+            Some(Command::Work { workers, rounds })
+        }
+        Arguments::Two(Argument::Rounds(rounds), Argument::Workers(workers)) => {
+            Some(Command::Work { workers, rounds })
+        }
         _ => None,
     }
 }
@@ -67,6 +90,8 @@ pub fn read_words(words: &[String]) -> Option<Command>
     let (name, rest) = words.split_first()?;
     if name.as_bytes() == b"plain".as_slice() {
         plain(read_arguments(rest))
+    } else if name.as_bytes() == b"work".as_slice() {
+        work(read_arguments(rest))
     } else if name.as_bytes() == b"big".as_slice() {
         big(read_arguments(rest))
     } else {

@@ -33,6 +33,26 @@ fn lines_that_are_plain(rt: HostRuntime) -> Result<(), Fail> {
 }
 
 #[test]
+fn lines_that_are_work(rt: HostRuntime) -> Result<(), Fail> {
+    for (line, workers, rounds) in [
+        ("work --workers 1", 1, 100_000),
+        ("work --workers=8", 8, 100_000),
+        ("work --workers 0000004", 4, 100_000),
+        ("work --workers 2 --rounds 50", 2, 50),
+        ("work --rounds=50 --workers=2", 2, 50),
+        ("work --rounds 1000000 --workers 8", 8, 1_000_000),
+    ] {
+        let words = words_in(rt.alloc(), line)?;
+        assert_eq!(rt;
+            read_words(words.as_slice()),
+            Some(Command::Work { workers, rounds }),
+            "{line}"
+        );
+    }
+    Ok(())
+}
+
+#[test]
 fn lines_that_are_big(rt: HostRuntime) -> Result<(), Fail> {
     for (line, number, rounds) in [
         ("big 1", 1, 100_000),
@@ -80,7 +100,18 @@ fn lines_that_are_no_command(rt: HostRuntime) -> Result<(), Fail> {
         "--help",
         "help",
         "work",
-        "work --workers 2",
+        "work --workers",
+        "work --workers 0",
+        "work --workers 9",
+        "work --workers=",
+        "work --workers 2 3",
+        "work --workers 2 --workers 2",
+        "work --rounds 5",
+        "work --rounds 5 --workers 2 --rounds 5",
+        "work 2",
+        "plain --workers 2",
+        "plain --rounds 5 --workers 2",
+        "big 3 --workers 2",
         "big",
         "big 0",
         "big 61",

@@ -2,7 +2,7 @@
 
 ghost use Rattle.std.specs.Prelude.{◌≡◌, ◌≤◌, ◌⊎◌, length, take, vec_len, IfOk};
 
-use pld_io::{MemSink, MemSource};
+use pld_io::{MemSink, MemSource, OpenGate};
 use pld_session::{Bench, Entry, Options, Status, pld, pld_plain};
 use std::test::Fail;
 
@@ -430,10 +430,12 @@ fn takes_one_command(rt: HostRuntime) -> Result<(), Fail> {
         let mut sink = MemSink::new(rt.alloc(), Vec::new(rt.alloc()), 1000)?;
         let mut bench = Bench::new(rt.alloc());
         let status = pld(
+            &rt,
             rt.alloc(),
             words.as_slice(),
             &mut source,
             &mut sink,
+            &OpenGate,
             &mut bench,
         );
         assert_eq!(rt; status, row.1);

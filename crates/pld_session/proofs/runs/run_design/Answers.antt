@@ -10,7 +10,7 @@ use Rattle.pld_session.proofs.Running.{same_given}
 use Rattle.pld_session.proofs.runs.run_design.Goals as goal
 
 pub plan-requires-clause-runnable : goal.plan-requires-clause-runnable
-plan-requires-clause-runnable c =
+plan-requires-clause-runnable g c =
     let d = c.args.draft.now in
     let given : Given = record {
       leaves = numbers c.leaf_of-leaves.result.now;
@@ -25,7 +25,7 @@ plan-requires-clause-runnable c =
     subst (λ g. IsRunnable g given) (sym c.graph-graph.ensures) (subst (λ x. IsRunnable d.design x) same c.built_designs_run.ensures.runnable)
 
 pub returns-clause-fits : goal.returns-clause-fits
-returns-clause-fits c =
+returns-clause-fits g c =
     let d = c.args.draft.now in
     let given : Given = record {
       leaves = numbers c.leaf_of-leaves.result.now;
@@ -38,7 +38,7 @@ returns-clause-fits c =
     let i : images d ≡ c.in_ok-images.images.items = sym (c.in_ok-images.ensures ∙ c.deref.ensures.value ∙ ap (λ (b : BuildValue). b.images) c.build.view_is ∙ c.requires.built.images) in
     let same = same_given (given_in (holding c.args.rounds d c.args.standing.now)) given l i (sym c.in_ok-before.ensures) (sym c.in_ok-feeds.ensures.value) refl in
     let planned : c.in_ok-plan.plan ≡ plan_in (holding c.args.rounds d c.args.standing.now) = c.in_ok-plan.ensures ∙ ap (λ g. plan_of g given) c.graph-graph.ensures ∙ ap (plan_of d.design) (sym same) in
-    let is : c.run_plain-fabric.result.plan ≡ plan_in (holding c.args.rounds d c.args.standing.now) = c.run_plain-fabric.ensures.plan ∙ ap (λ (r : RunValue). r.plan) c.in_ok-prepare.ensures ∙ planned in
+    let is : c.in_ok-fabric.fabric.plan ≡ plan_in (holding c.args.rounds d c.args.standing.now) = c.in_ok-fabric.ensures.plan ∙ ap (λ (r : RunValue). r.plan) c.in_ok-prepare.ensures ∙ planned in
     record {
       plan = is;
       runnable = c.built_designs_run.ensures.runnable;
@@ -49,8 +49,8 @@ returns-clause-fits c =
     }
 
 pub returns-clause-pages : goal.returns-clause-pages
-returns-clause-pages c =
+returns-clause-pages g c =
     let st = holding c.args.rounds c.args.draft.now c.args.standing.now in
-    let fit = returns-clause-fits c in
+    let fit = returns-clause-fits g c in
     let design = c.plans_are_designs.ensures.design c.args.draft.now.design (given_in st) (meanings c.args.draft.now) fit.runnable fit.means in
     ap (λ (p : PlanValue). length p.pages) fit.plan ∙ sym design.as_many ∙ fit.means.many ∙ fit.runnable.images.many

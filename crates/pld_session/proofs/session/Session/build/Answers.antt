@@ -11,12 +11,12 @@ use Rattle.pld_session.proofs.Told.{few_sources, if_ok, build_spends, build_refu
 use Rattle.pld_session.proofs.session.Session.build.Goals as goal
 
 pub build_design-requires-clause-room : goal.build_design-requires-clause-room
-build_design-requires-clause-room c =
+build_design-requires-clause-room g c =
     let few = few_sources c.self.inside.draft c.graph-graph.result.now c.sources-sources.result.now c.graph-graph.ensures c.sources-sources.ensures.value c.sources-sources.ensures.kept c.operators-operators.ensures.sound in
     omega (arith, few, ap length c.sources-sources.ensures.value, c.requires.room)
 
 pub returns-in-Err-NoMemory-clause-err : goal.returns-in-Err-NoMemory-clause-err
-returns-in-Err-NoMemory-clause-err c =
+returns-in-Err-NoMemory-clause-err g c =
     let some : nat_le (length c.self.inside.draft.sources) 0 ≡ false = search rules in
     let closed : open_port c.self.inside.draft.design ≡ None = search rules in
     let told = subst (λ f. Builds (Err f) c.self.inside.draft c.self.inside.compiler c.build_design.new.compiler c.args.bench.now.permits c.build_design.new.permits) c.in-Err-NoMemory.field-0-is c.in-Err-NoMemory.ensures in (
@@ -29,7 +29,7 @@ returns-in-Err-NoMemory-clause-err c =
     )
 
 pub returns-in-Err-Fault-clause-ok : goal.returns-in-Err-Fault-clause-ok
-returns-in-Err-Fault-clause-ok c =
+returns-in-Err-Fault-clause-ok g c =
     let some : nat_le (length c.self.inside.draft.sources) 0 ≡ false = search rules in
     let closed : open_port c.self.inside.draft.design ≡ None = search rules in
     let told = subst (λ f. Builds (Err f) c.self.inside.draft c.self.inside.compiler c.build_design.new.compiler c.args.bench.now.permits c.build_design.new.permits) c.in-Err-Fault.field-0-is c.in-Err-Fault.ensures in
@@ -37,7 +37,7 @@ returns-in-Err-Fault-clause-ok c =
     let same : held c.build_design.new.compiler ≡ c.args.self.now = ap held told.4 ∙ c.self.view_is in
     if_ok c.refuse-in-Err-Fault.result (λ refused said. build_refused c.args.self.now c.args.number
     (subst (λ (st : State). nat_le (length st.draft.sources) 0 ≡ false) c.self.view_is some) (subst (λ (st : State). open_port st.draft.design ≡ None) c.self.view_is closed)
-    _ _ c.args.bench.now (record { permits = c.build_design.new.permits; records = c.args.bench.now.records }) _ refused _ same
+    g.X.Runner.order _ _ c.args.bench.now (record { permits = c.build_design.new.permits; records = c.args.bench.now.records }) _ refused _ same
     (subst (λ (st : State). pages st.draft.design < length st.draft.sources) c.self.view_is told.0)
     (ap (λ (f : TooFewPages). f.operators) c.in-Err-Fault.few-is ∙ told.1 ∙ ap (λ (st : State). length st.draft.sources) c.self.view_is)
     (ap (λ (f : TooFewPages). f.pages) c.in-Err-Fault.few-is ∙ told.2 ∙ ap (λ (st : State). pages st.draft.design) c.self.view_is)
