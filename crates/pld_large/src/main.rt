@@ -12,5 +12,12 @@ fn main(rt: HostRuntime) -> ExitCode {
     let mut sink = WriteSink::new(io::writer(&rt));
     let mut errors = WriteSink::new(io::writer(&rt));
     let mut bench = Bench::new(rt.alloc());
-    program(&rt, &mut source, &mut sink, &mut errors, &OpenGate, &mut bench)
+    program(
+        &rt,
+        &mut source,
+        &mut sink,
+        &mut errors,
+        &OpenGate,
+        &mut bench,
+    )
 }
