@@ -12,6 +12,9 @@ use crate::begun::Begun;
 use crate::shared::Shared;
 use fabric_core::{Fabric, Page};
 
+// The leaves of the widest tree.
+const LEAVES: u8 = 64;
+
 // Takes the page on a leaf, if that is legal.
 fn take_page(fabric: &mut Fabric, seat: u8, leaf: u8) -> Option<Page>
     requires { seat < 16 }
@@ -22,14 +25,14 @@ fn take_page(fabric: &mut Fabric, seat: u8, leaf: u8) -> Option<Page>
     fabric.take(seat, leaf)
 }
 
-// Takes the first page that may be taken.
-fn take_next(fabric: &mut Fabric, seat: u8) -> Option<Page>
+// Takes the first page from this leaf on that may be taken.
+fn take_next(fabric: &mut Fabric, seat: u8, from: u8) -> Option<Page>
     requires { seat < 16 }
     ensures plan { fabric.new.plan ≡ fabric.old.plan }
     ensures none { IsNone result → fabric.new ≡ fabric.old }
     ensures some { IfSome result (λ page. IsNoted seat (words_of fabric.old) (words_of fabric.new) × Holds fabric.new seat page) }
 {
-    for leaf in 0..64u8 {
+    for leaf in from..LEAVES {
         if let Some(page) = take_page(fabric, seat, leaf) {
             return Some(page);
         }
@@ -68,9 +71,28 @@ impl Shared {
             self.fabric.is_legal();
             return Begun::Over;
         }
-        let begun = start(&mut self.fabric, seat);
+        let begun = self.start(seat);
         self.fabric.is_legal();
         begun
+    }
+
+    // Begins some work of a run that isn't over: the next page that had no turn since the last round, or a round.
+    fn start(&mut self, seat: u8) -> Begun
+        requires { seat < 16 }
+        ensures plan { self.new.fabric.plan ≡ self.old.fabric.plan }
+        ensures began { Began self.old.fabric self.new.fabric seat result }
+    {
+        if let Some(page) = take_next(&mut self.fabric, seat, self.next) {
+            self.next = page.leaf().saturating_add(1);
+            return Begun::Taken(page);
+        }
+        self.next = LEAVES;
+        if make_round(&mut self.fabric, seat) {
+            self.next = 0;
+            Begun::Round
+        } else {
+            Begun::Nothing
+        }
     }
 
     /// Takes a page back.
@@ -90,21 +112,5 @@ impl Shared {
         ensures words { map entry_of (words_of self.now.fabric) ≡ self.now.fabric.journal }
     {
         self.fabric.is_legal();
-    }
-}
-
-// Begins some work of a run that isn't over.
-fn start(fabric: &mut Fabric, seat: u8) -> Begun
-    requires { seat < 16 }
-    ensures plan { fabric.new.plan ≡ fabric.old.plan }
-    ensures began { Began fabric.old fabric.new seat result }
-{
-    if let Some(page) = take_next(fabric, seat) {
-        return Begun::Taken(page);
-    }
-    if make_round(fabric, seat) {
-        Begun::Round
-    } else {
-        Begun::Nothing
     }
 }

@@ -6,10 +6,12 @@ ghost use Rattle.fabric_core.specs.Runs.{words_of};
 use fabric_core::{Fabric, Plan};
 use fabric_lock::Told;
 
-/// A run that workers share. Its base is the plan, and its history the words of the journal.
+/// A run that workers share. Its base is the plan, and its history the words of the journal. The pages on leaves below `next` were
+/// taken since the last round, where they could be.
 #[derive(Drop)]
 pub struct Shared {
     pub(crate) fabric: Fabric,
+    pub(crate) next: u8,
 }
 
 impl Shared {
@@ -17,14 +19,14 @@ impl Shared {
     pub fn new(fabric: Fabric) -> Shared
         ensures { result.fabric ≡ fabric }
     {
-        Shared { fabric }
+        Shared { fabric, next: 0 }
     }
 
     /// The run.
     pub fn fabric(self) -> Fabric
         ensures { result ≡ self.fabric }
     {
-        let Shared { fabric } = self;
+        let Shared { fabric, next: _ } = self;
         fabric
     }
 }
