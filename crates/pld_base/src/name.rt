@@ -97,6 +97,14 @@ impl Name {
         &self.bytes[..self.len]
     }
 
+    /// How many bytes it has, 1 to 32.
+    pub fn len(&self) -> usize
+        ensures value { result ≡ length self.now }
+        ensures most { result ≤ 32 }
+    {
+        self.len
+    }
+
     /// Whether both are the same text.
     pub fn is_same(&self, other: &Name) -> bool
         ensures { result ≡ bytes_eq self.now other.now }

@@ -158,7 +158,7 @@ took_stop (Runs answer) Fits s old new reply refused next f bare (run, l, g) =
       few = omega (arith, g.spent);
     }
 
-broke_stop : {S R : Type 0} (x : Step S R) (Fits : S → R → Type 0) (s : S) (old new : Bench R) (f : S → List R → Walked S R) → ((n : S) → Bare (f n [])) → Broke x (Fits s) old new
+broke_stop : {S R : Type 0} (x : Step S R) (Fits : S → R → Type 0) (s : S) (old new : Bench R) (f : S → List R → Walked S R) → ((n : S) → Bare (f n [])) → Broke x old new
     → StopsAt Fits old new (λ extra. after x s extra f) []
 broke_stop (Says told) Fits s old new f bare (n, few) =
     let b = bare told.next in
@@ -171,7 +171,7 @@ broke_stop (Says told) Fits s old new f bare (n, few) =
       out = refl;
       few = omega (arith, few.1);
     }
-broke_stop (Runs answer) Fits s old new f bare (inl (n, same)) = record {
+broke_stop (Runs answer) Fits s old new f bare (n, same) = record {
   extra = [];
   grown = n ∙ sym (append-nil old.records.items);
   fit = All-nil _;
@@ -180,17 +180,6 @@ broke_stop (Runs answer) Fits s old new f bare (inl (n, same)) = record {
   out = refl;
   few = omega (arith, same);
 }
-broke_stop (Runs answer) Fits s old new f bare (inr (run, l, few)) =
-    let b = bare (answer run).next in
-    record {
-      extra = run ∷ [];
-      grown = l.last;
-      fit = All-cons (λ r. Fits r.0 r.1) (s, run) (f (answer run).next []).runs l.fit (bare_fits Fits (f (answer run).next []) b);
-      left = b.left;
-      rest = (answer run).reply ++ (f (answer run).next []).out;
-      out = refl;
-      few = omega (arith, few.1);
-    }
 
 -- What was written is a front of what the session writes, and no more permits were spent.
 -- `Put` tells what was put.
@@ -237,7 +226,7 @@ cut_front {S} {R} step Fits ended text s b w at to goes none placed comes quit c
 
 break_front : {S R : Type 0} (step : S → Placed → Step S R) (Fits : S → R → Type 0) (ended : Bool) (text : List ℕ) (s : S) (b : Bench R) (w : SinkState) (at : Point S R) (to : Held S R)
     (goes : Goes step Fits ended text (first_point s b w) at) → IsNew b → (placed : Placed) → Comes ended text at placed → is_quit placed.said ≡ false
-    → Breaks step Fits placed at.held to → (e : Bool) (more bytes : List ℕ) → MayFollow ended e more → bytes ≡ text ++ more
+    → Breaks step placed at.held to → (e : Bool) (more bytes : List ℕ) → MayFollow ended e more → bytes ≡ text ++ more
     → Front Fits (Accepts w to.sink) [] to.bench.permits (session step s bytes e to.bench.records.items)
 break_front {S} {R} step Fits ended text s b w at to goes none placed comes quit breaks e more bytes m is =
     front_of step Fits ended text s b to.bench w (Accepts w to.sink) at goes none placed [] [] comes quit
@@ -347,7 +336,7 @@ Ends-after step Fits ended text from mid to flow.Open goes e = record { goes = G
 Ends-after step Fits ended text from mid to flow.Quits goes e = record { number = e.number; goes = Goes-trans step Fits ended text from mid to goes e.goes; comes = e.comes }
 Ends-after step Fits ended text from mid to (flow.Stopped stop.WriteFault) goes e = reaches_after step Fits ended text from mid (λ placed held. Cuts step Fits placed held to.held) goes e
 Ends-after step Fits ended text from mid to (flow.Stopped stop.NoMemory) goes (inl e) = inl (Goes-trans step Fits ended text from mid to goes e)
-Ends-after step Fits ended text from mid to (flow.Stopped stop.NoMemory) goes (inr e) = inr (reaches_after step Fits ended text from mid (λ placed held. Breaks step Fits placed held to.held) goes e)
+Ends-after step Fits ended text from mid to (flow.Stopped stop.NoMemory) goes (inr e) = inr (reaches_after step Fits ended text from mid (λ placed held. Breaks step placed held to.held) goes e)
 
 -- ---- how far a session came that stopped
 
@@ -427,13 +416,24 @@ cut_short {S} {R} step Fits ended text s b w at to goes none placed quit cuts lo
       put = subst P (sym before) (Accepts-until w at.held.sink to.sink d.out cuts.part goes.put cuts.put);
     }
 
-broke_least : {S R : Type 0} (x : Step S R) (Fits : R → Type 0) (old new : Bench R) → Broke x Fits old new → old.permits ≤ new.permits
-broke_least (Says told) Fits old new (n, few) = few.0
-broke_least (Runs answer) Fits old new (inl (n, same)) = omega (arith, same)
-broke_least (Runs answer) Fits old new (inr (run, l, few)) = few.0
+broke_least : {S R : Type 0} (x : Step S R) (old new : Bench R) → Broke x old new → old.permits ≤ new.permits
+broke_least (Says told) old new (n, few) = few.0
+broke_least (Runs answer) old new (n, same) = omega (arith, same)
+
+-- it leaves no record
+broke_none : {S R : Type 0} (x : Step S R) (old new : Bench R) → Broke x old new → new.records.items ≡ old.records.items
+broke_none (Says told) old new (n, few) = n
+broke_none (Runs answer) old new (n, same) = n
+
+empty : {A : Type 0} (xs : List A) → length xs ≡ 0 → xs ≡ []
+empty [] e = refl
+empty (x ∷ xs) e = cc
+
+none_more : {A : Type 0} (xs ys zs : List A) → ys ≡ xs ++ zs → ys ≡ xs → zs ≡ []
+none_more xs ys zs grown same = empty zs (omega (arith, ap length grown, ap length same, length-append xs zs))
 
 broken_off : {S R : Type 0} (step : S → Placed → Step S R) (Fits : S → R → Type 0) (ended : Bool) (text : List ℕ) (s : S) (b : Bench R) (w : SinkState) (at : Point S R) (to : Held S R)
-    (goes : Goes step Fits ended text (first_point s b w) at) → IsNew b → (placed : Placed) → is_quit placed.said ≡ false → Breaks step Fits placed at.held to
+    (goes : Goes step Fits ended text (first_point s b w) at) → IsNew b → (placed : Placed) → is_quit placed.said ≡ false → Breaks step placed at.held to
     → (lo ln : SourceState) (taken : List ℕ) → AreFirst ln taken (goes.done ++ placed ∷ []) → IsBrokenOff step s (moment_of lo w b) (moment_of ln to.sink to.bench) taken
 broken_off {S} {R} step Fits ended text s b w at to goes none placed quit breaks lo ln taken first =
     let t : StopsAt Fits at.held.bench to.bench (λ extra. walk step at.held.state (placed ∷ []) extra) [] =
@@ -449,7 +449,7 @@ broken_off {S} {R} step Fits ended text s b w at to goes none placed quit breaks
     let permits : (walk step s (goes.done ++ placed ∷ []) to.bench.records.items).permits ≡ d.permits + v.permits = ap (λ x. x.permits) both in
     let fewer : (walk step s goes.done to.bench.records.items).permits ≡ d.permits + 0 = ap (λ x. x.permits) front in
     let few : to.bench.permits ≤ at.held.bench.permits + v.permits = t.few in
-    let least : at.held.bench.permits ≤ to.bench.permits = broke_least (step at.held.state placed) (Fits at.held.state) at.held.bench to.bench breaks.broke in
+    let least : at.held.bench.permits ≤ to.bench.permits = broke_least (step at.held.state placed) at.held.bench to.bench breaks.broke in
     let P : List ℕ → Type 0 = λ l. Accepts w to.sink l in
     record {
       done = goes.done;
@@ -458,7 +458,7 @@ broken_off {S} {R} step Fits ended text s b w at to goes none placed quit breaks
       first = first;
       answered = some_end _ at.held.state (ap (λ x. x.end) front);
       put = subst P (sym (ap (λ x. x.out) front)) (Accepts-trans w at.held.sink to.sink d.out [] goes.put breaks.put);
-      none_left = ap (λ x. x.left) both ∙ t.left;
+      none_left = ap (λ x. x.left) front ∙ none_more at.held.bench.records.items to.bench.records.items t.extra t.grown (broke_none (step at.held.state placed) at.held.bench to.bench breaks.broke);
       least = omega (arith, least, fewer, goes.permits, none.permits);
       most = omega (arith, few, permits, goes.permits, none.permits);
     }
@@ -481,7 +481,7 @@ broken_between {S} {R} step Fits ended text s b w at goes none lo ln taken first
       first = first;
       answered = some_end _ at.held.state (ap (λ x. x.end) front ∙ goes.end);
       put = subst P (sym (ap (λ x. x.out) front)) goes.put;
-      none_left = ap (λ x. x.left) both ∙ goes.left;
+      none_left = ap (λ x. x.left) front ∙ goes.left;
       least = omega (arith, fewer, goes.permits, none.permits);
       most = omega (arith, permits, goes.permits, none.permits);
     }

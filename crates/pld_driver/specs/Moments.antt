@@ -39,12 +39,10 @@ Took {R = R} (Runs answer) Fits old new reply refused next =
 abbrev pub Spends : ℕ → ℕ → ℕ → Type 0
 Spends old new permits = (old ≤ new) × (new ≤ old + permits)
 
--- No answer was given. A run that had begun may have left its record.
-abbrev pub Broke : {S R : Type 0} → Step S R → (R → Type 0) → Bench R → Bench R → Type 0
-Broke {R = R} (Says told) Fits old new = (new.records.items ≡ old.records.items) × Spends old.permits new.permits told.permits
-Broke {R = R} (Runs answer) Fits old new =
-    ((new.records.items ≡ old.records.items) × (new.permits ≡ old.permits))
-    ⊎ ((run : R) × Leaves Fits old.records.items new.records.items run × Spends old.permits new.permits (answer run).permits)
+-- No answer was given, and no record was left.
+abbrev pub Broke : {S R : Type 0} → Step S R → Bench R → Bench R → Type 0
+Broke {R = R} (Says told) old new = (new.records.items ≡ old.records.items) × Spends old.permits new.permits told.permits
+Broke {R = R} (Runs answer) old new = (new.records.items ≡ old.records.items) × (new.permits ≡ old.permits)
 
 -- what a session holds at a moment: the state, what it leaves, and the sink
 pub record Held (S R : Type 0) : Type 0 where
@@ -97,14 +95,14 @@ pub record Cuts {S R : Type 0} (step : S → Placed → Step S R) (Fits : S → 
   pub put : AcceptsUntilFault from.sink to.sink part
 
 -- No answer was given, and nothing was written.
-pub record Breaks {S R : Type 0} (step : S → Placed → Step S R) (Fits : S → R → Type 0) (placed : Placed) (from to : Held S R) : Type 0 where
-  pub broke : Broke (step from.state placed) (Fits from.state) from.bench to.bench
+pub record Breaks {S R : Type 0} (step : S → Placed → Step S R) (placed : Placed) (from to : Held S R) : Type 0 where
+  pub broke : Broke (step from.state placed) from.bench to.bench
   pub put : Accepts from.sink to.sink []
 
 -- why the answer to a statement stops
 abbrev pub Stops : {S R : Type 0} → (S → Placed → Step S R) → (S → R → Type 0) → Placed → Held S R → Held S R → Stop → Type 0
 Stops step Fits placed from to WriteFault = Cuts step Fits placed from to
-Stops step Fits placed from to NoMemory = Breaks step Fits placed from to
+Stops step Fits placed from to NoMemory = Breaks step placed from to
 
 -- All statements of a text from a moment on were answered.
 pub record AnswersAll {S R : Type 0} (step : S → Placed → Step S R) (Fits : S → R → Type 0) (ended : Bool) (text : List ℕ) (from to : Point S R) : Type 0 where
@@ -131,7 +129,7 @@ abbrev pub Ends : {S R : Type 0} → (S → Placed → Step S R) → (S → R �
 Ends step Fits ended text from to flow.Open = AnswersAll step Fits ended text from to
 Ends step Fits ended text from to flow.Quits = QuitsAt step Fits ended text from to
 Ends step Fits ended text from to (flow.Stopped WriteFault) = Reaches step Fits ended text from (λ placed held. Cuts step Fits placed held to.held)
-Ends step Fits ended text from to (flow.Stopped NoMemory) = Goes step Fits ended text from to ⊎ Reaches step Fits ended text from (λ placed held. Breaks step Fits placed held to.held)
+Ends step Fits ended text from to (flow.Stopped NoMemory) = Goes step Fits ended text from to ⊎ Reaches step Fits ended text from (λ placed held. Breaks step placed held to.held)
 
 -- whether the answers may go on
 abbrev pub is_open : Flow → Bool

@@ -64,8 +64,9 @@ pub record IsCutShort {S R : Type 0} (step : S → Placed → Step S R) (start :
       ≡ (walk step start done after.bench.records.items).out ++ (part ++ missing)
   pub put : AcceptsUntilFault before.sink after.sink ((walk step start done after.bench.records.items).out ++ part)
 
--- Memory was wanting. These statements were answered, none is a `quit`, and their replies were written, and no other. The one behind them,
--- if any was begun, has no answer: it may have spent some of its permits, and its run may have left its record.
+-- Memory was wanting. These statements were answered, none is a `quit`; their replies were written whole, and no other; and the records are
+-- those of their runs, no more and no fewer, so that each run that left its record was answered. The statement behind them, if any was begun,
+-- has no answer and left no record: it may have spent some of its permits.
 pub record IsBrokenOff {S R : Type 0} (step : S → Placed → Step S R) (start : S) (before after : Moment R) (taken : List ℕ) : Type 0 where
   pub done : List Placed
   pub begun : List Placed
@@ -73,7 +74,7 @@ pub record IsBrokenOff {S R : Type 0} (step : S → Placed → Step S R) (start 
   pub first : AreFirst after.source taken (done ++ begun)
   pub answered : IsSome (walk step start done after.bench.records.items).end
   pub put : Accepts before.sink after.sink (walk step start done after.bench.records.items).out
-  pub none_left : (walk step start (done ++ begun) after.bench.records.items).left ≡ []
+  pub none_left : (walk step start done after.bench.records.items).left ≡ []
   pub least : (walk step start done after.bench.records.items).permits ≤ after.bench.permits
   pub most : after.bench.permits ≤ (walk step start (done ++ begun) after.bench.records.items).permits
 

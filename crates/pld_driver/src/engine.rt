@@ -47,7 +47,8 @@ pub trait Engine {
 
     /// Answers a statement, or a bad line, whose first line has this number. The reply goes into the empty list, and the
     /// result says whether the statement was refused. An answer spends at most 64 permits. A run puts its record at the end
-    /// of the bench's. Pages that are turned on threads pass the gate. The one error is want of memory: then no answer was given, and the engine isn't asked again.
+    /// of the bench's. Pages that are turned on threads pass the gate. The one error is want of memory: then no answer was given and no
+    /// record was left, and the engine isn't asked again.
     fn answer(
         &mut self,
         alloc: Global,
@@ -61,6 +62,6 @@ pub trait Engine {
         requires empty { reply.old.items ≡ [] }
         requires room { bench.old.permits + 64 < 2 ^ 64 }
         ensures ok { IfOk result (λ refused. Took (step self.old (record { number = number; said = said })) (fits self.old) bench.old bench.new reply.new.items refused self.new) }
-        ensures err { OnErr result (Broke (step self.old (record { number = number; said = said })) (fits self.old) bench.old bench.new) }
+        ensures err { OnErr result (Broke (step self.old (record { number = number; said = said })) bench.old bench.new) }
         ensures few { bench.new.permits ≤ bench.old.permits + 64 };
 }

@@ -2,3 +2,4 @@ mod Replying
 mod Lengths
 mod Outs
 mod Summing
+mod Filling

@@ -1,6 +1,6 @@
 //! The reply to a run.
 
-ghost use Rattle.std.specs.Prelude.{◌≡◌, ◌++◌, OnOk, decimal, codes, length};
+ghost use Rattle.std.specs.Prelude.{◌≡◌, ◌+◌, ◌<◌, ◌≤◌, ◌++◌, OnOk, OnErr, decimal, codes, length, vec_len, vec_capacity};
 ghost use Rattle.fabric_core.specs.Runs.{setup_for, state_of};
 ghost use Rattle.fabric_run.specs.Replay.{outcome, blocked};
 ghost use Rattle.fabric_run.specs.World.{out_at};
@@ -14,7 +14,9 @@ use pld_base::{Name, NoMemory, Side};
 
 /// Writes how a run ended.
 fn put_outcome(reply: &mut Vec<u8>, rounds: u64, end: Option<Outcome>) -> Result<(), NoMemory>
-    ensures { OnOk result (reply.new.items ≡ reply.old.items ++ outcome_line end rounds) }
+    ensures text { OnOk result (reply.new.items ≡ reply.old.items ++ outcome_line end rounds) }
+    ensures room { vec_capacity reply.old ≤ vec_capacity reply.new }
+    ensures full { OnErr result (vec_capacity reply.old < vec_len reply.old + length (outcome_line end rounds)) }
 {
     match end {
         None => Ok(()),
@@ -30,7 +32,9 @@ fn put_outcome(reply: &mut Vec<u8>, rounds: u64, end: Option<Outcome>) -> Result
 
 /// Writes the port at which an operator stands, if it stands at one.
 fn put_port(reply: &mut Vec<u8>, name: &Name, at: Option<Blocked>) -> Result<(), NoMemory>
-    ensures { OnOk result (reply.new.items ≡ reply.old.items ++ at_line name.now at) }
+    ensures text { OnOk result (reply.new.items ≡ reply.old.items ++ at_line name.now at) }
+    ensures room { vec_capacity reply.old ≤ vec_capacity reply.new }
+    ensures full { OnErr result (vec_capacity reply.old < vec_len reply.old + length (at_line name.now at)) }
 {
     let Some(at) = at else {
         return Ok(());
@@ -53,7 +57,9 @@ fn put_port(reply: &mut Vec<u8>, name: &Name, at: Option<Blocked>) -> Result<(),
 
 /// Writes each word behind a space.
 fn put_words(reply: &mut Vec<u8>, words: &[u32]) -> Result<(), NoMemory>
-    ensures { OnOk result (reply.new.items ≡ reply.old.items ++ spaced words.now) }
+    ensures text { OnOk result (reply.new.items ≡ reply.old.items ++ spaced words.now) }
+    ensures room { vec_capacity reply.old ≤ vec_capacity reply.new }
+    ensures full { OnErr result (vec_capacity reply.old < vec_len reply.old + length (spaced words.now)) }
 {
     for word in words {
         put_text(reply, b" ")?;
@@ -64,7 +70,9 @@ fn put_words(reply: &mut Vec<u8>, words: &[u32]) -> Result<(), NoMemory>
 
 /// Writes the words of an output.
 fn put_out(reply: &mut Vec<u8>, name: &Name, words: &[u32]) -> Result<(), NoMemory>
-    ensures { OnOk result (reply.new.items ≡ reply.old.items ++ out_line name.now words.now) }
+    ensures text { OnOk result (reply.new.items ≡ reply.old.items ++ out_line name.now words.now) }
+    ensures room { vec_capacity reply.old ≤ vec_capacity reply.new }
+    ensures full { OnErr result (vec_capacity reply.old < vec_len reply.old + length (out_line name.now words.now)) }
 {
     put_text(reply, b"out ")?;
     put_text(reply, name.as_bytes())?;
@@ -77,7 +85,9 @@ fn put_out(reply: &mut Vec<u8>, name: &Name, words: &[u32]) -> Result<(), NoMemo
 /// Writes the ports at which the operators stand, where the run is stalled.
 fn put_ports(reply: &mut Vec<u8>, names: &[Name], fabric: &Fabric) -> Result<(), NoMemory>
     requires { length names.now ≡ length fabric.now.plan.pages }
-    ensures { OnOk result (reply.new.items ≡ reply.old.items ++ at_lines (name_in names.now) (outcome (setup_for fabric.now) (state_of fabric.now)) (blocked (setup_for fabric.now) (state_of fabric.now)) (length names.now)) }
+    ensures text { OnOk result (reply.new.items ≡ reply.old.items ++ at_lines (name_in names.now) (outcome (setup_for fabric.now) (state_of fabric.now)) (blocked (setup_for fabric.now) (state_of fabric.now)) (length names.now)) }
+    ensures room { vec_capacity reply.old ≤ vec_capacity reply.new }
+    ensures full { OnErr result (vec_capacity reply.old < vec_len reply.old + length (at_lines (name_in names.now) (outcome (setup_for fabric.now) (state_of fabric.now)) (blocked (setup_for fabric.now) (state_of fabric.now)) (length names.now))) }
 {
     match fabric.over() {
         None => Ok(()),
@@ -90,7 +100,9 @@ fn put_ports(reply: &mut Vec<u8>, names: &[Name], fabric: &Fabric) -> Result<(),
 /// Writes the ports at which the operators stand.
 fn put_stalled(reply: &mut Vec<u8>, names: &[Name], fabric: &Fabric) -> Result<(), NoMemory>
     requires { length names.now ≡ length fabric.now.plan.pages }
-    ensures { OnOk result (reply.new.items ≡ reply.old.items ++ lines_below (λ k. at_line (name_in names.now k) (blocked (setup_for fabric.now) (state_of fabric.now) k)) (length names.now)) }
+    ensures text { OnOk result (reply.new.items ≡ reply.old.items ++ lines_below (λ k. at_line (name_in names.now k) (blocked (setup_for fabric.now) (state_of fabric.now) k)) (length names.now)) }
+    ensures room { vec_capacity reply.old ≤ vec_capacity reply.new }
+    ensures full { OnErr result (vec_capacity reply.old < vec_len reply.old + length (lines_below (λ k. at_line (name_in names.now k) (blocked (setup_for fabric.now) (state_of fabric.now) k)) (length names.now))) }
 {
     for k in 0..names.len() {
         put_port(reply, &names[k], fabric.blocked(k))?;
@@ -101,7 +113,9 @@ fn put_stalled(reply: &mut Vec<u8>, names: &[Name], fabric: &Fabric) -> Result<(
 /// Writes the words of the outputs.
 fn put_outs(reply: &mut Vec<u8>, outputs: &[Name], fabric: &Fabric) -> Result<(), NoMemory>
     requires { length outputs.now ≡ fabric.now.plan.outs }
-    ensures { OnOk result (reply.new.items ≡ reply.old.items ++ lines_below (λ k. out_line (name_in outputs.now k) (out_at (state_of fabric.now) k)) (length outputs.now)) }
+    ensures text { OnOk result (reply.new.items ≡ reply.old.items ++ lines_below (λ k. out_line (name_in outputs.now k) (out_at (state_of fabric.now) k)) (length outputs.now)) }
+    ensures room { vec_capacity reply.old ≤ vec_capacity reply.new }
+    ensures full { OnErr result (vec_capacity reply.old < vec_len reply.old + length (lines_below (λ k. out_line (name_in outputs.now k) (out_at (state_of fabric.now) k)) (length outputs.now))) }
 {
     for k in 0..outputs.len() {
         put_out(reply, &outputs[k], fabric.out(k))?;
@@ -110,7 +124,8 @@ fn put_outs(reply: &mut Vec<u8>, outputs: &[Name], fabric: &Fabric) -> Result<()
 }
 
 /// Writes the reply to a run, for the names of its operators and of its outputs: `done`, `stalled` or `spent ROUNDS` with the
-/// rounds that were made; where it is stalled, the port at which each operator stands; and the words of each output.
+/// rounds that were made; where it is stalled, the port at which each operator stands; and the words of each output. It fails only
+/// where there is no room for all of it.
 pub fn put_run(
     reply: &mut Vec<u8>,
     names: &[Name],
@@ -119,7 +134,9 @@ pub fn put_run(
 ) -> Result<(), NoMemory>
     requires names { length names.now ≡ length fabric.now.plan.pages }
     requires outputs { length outputs.now ≡ fabric.now.plan.outs }
-    ensures { OnOk result (reply.new.items ≡ reply.old.items ++ run_reply (name_in names.now) (name_in outputs.now) (length fabric.now.plan.pages) fabric.now.plan.outs (shown (setup_for fabric.now) (state_of fabric.now))) }
+    ensures text { OnOk result (reply.new.items ≡ reply.old.items ++ run_reply (name_in names.now) (name_in outputs.now) (length fabric.now.plan.pages) fabric.now.plan.outs (shown (setup_for fabric.now) (state_of fabric.now))) }
+    ensures room { vec_capacity reply.old ≤ vec_capacity reply.new }
+    ensures full { OnErr result (vec_capacity reply.old < vec_len reply.old + length (run_reply (name_in names.now) (name_in outputs.now) (length fabric.now.plan.pages) fabric.now.plan.outs (shown (setup_for fabric.now) (state_of fabric.now)))) }
 {
     put_outcome(reply, fabric.counts().rounds, fabric.over())?;
     put_ports(reply, names, fabric)?;

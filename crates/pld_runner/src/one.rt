@@ -19,7 +19,7 @@ impl Runner for OneThread {
         _alloc: Global,
         fabric: Fabric,
         _gate: &(dyn Gate + Sync),
-    ) -> Result<Fabric, NoMemory> {
+    ) -> Result<Fabric, (Fabric, NoMemory)> {
         Ok(run_plain(fabric))
     }
 }

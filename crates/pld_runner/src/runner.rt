@@ -1,6 +1,6 @@
 //! What makes runs.
 
-ghost use Rattle.std.specs.Prelude.{◌≡◌, [], IfOk, IsSome};
+ghost use Rattle.std.specs.Prelude.{◌≡◌, [], IfOk, IfErr, IsSome};
 ghost use Rattle.fabric_run.specs.Replay.{outcome};
 ghost use Rattle.fabric_core.specs.Runs.{setup_for, state_of};
 ghost use Rattle.pld_runner.specs.Orders.{Order, IsOrdered};
@@ -19,16 +19,17 @@ pub trait Runner {
     ghost order: { Order };
 
     /// Makes a run that has not begun, until it is over; workers pass the gate with each page that they turn. Want of memory comes only
-    /// before its first entry.
+    /// before its first entry: then the run comes back as it was.
     fn run(
         &self,
         alloc: Global,
         fabric: Fabric,
         gate: &(dyn Gate + Sync),
-    ) -> Result<Fabric, NoMemory>
+    ) -> Result<Fabric, (Fabric, NoMemory)>
         requires ready { ready }
         requires new { fabric.journal ≡ [] }
         ensures plan { IfOk result (λ run. run.plan ≡ fabric.plan) }
         ensures ordered { IfOk result (λ run. IsOrdered order run.plan run.journal) }
-        ensures over { IfOk result (λ run. IsSome (outcome (setup_for run) (state_of run))) };
+        ensures over { IfOk result (λ run. IsSome (outcome (setup_for run) (state_of run))) }
+        ensures err { IfErr result (λ e. e.0 ≡ fabric) };
 }

@@ -43,10 +43,7 @@ impl<'a, R: Threads + Wait + Sync> Runner for Workers<'a, R> {
         alloc: Global,
         fabric: Fabric,
         gate: &(dyn Gate + Sync),
-    ) -> Result<Fabric, NoMemory> {
-        match work_all(self.rt, alloc, fabric, self.workers, gate) {
-            Ok(run) => Ok(run),
-            Err((_, NoMemory)) => Err(NoMemory),
-        }
+    ) -> Result<Fabric, (Fabric, NoMemory)> {
+        work_all(self.rt, alloc, fabric, self.workers, gate)
     }
 }

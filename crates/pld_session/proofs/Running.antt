@@ -45,7 +45,7 @@ use Rattle.pld_reply.specs.declared.refusals.Refusal.TheVariants as refusal
 use Rattle.build_cache.specs.Pairs.{Pair}
 use Rattle.pld_session.specs.States.{State, BuildValue, IsBuild, CanBuild, images, leaves}
 use Rattle.pld_runner.specs.Orders.{Order}
-use Rattle.pld_session.specs.Runs.{meanings, feeds, given_in, ran_reply, end_of, counts_of, FitsRun, FitsNow, holding}
+use Rattle.pld_session.specs.Runs.{meanings, feeds, given_in, ran_reply, end_of, counts_of, shown_by, FitsRun, CanRun, IsMade, holding}
 use Rattle.pld_session.specs.Answers.{runs, runs_built, ran, after_run, refuses, most_runs}
 
 -- what the laws below tell
@@ -244,13 +244,10 @@ same_given a b l i p f r =
     ∙ ap (λ x. record { leaves = b.leaves; images = b.images; before = b.before; feeds = b.feeds; rounds = x }) r
 
 -- the state behind a run
-pub run_state : (rounds : ℕ) (d : DraftState) (compiled : List Pair) (built : Bool) (standing left : List (Option Row)) (count : ℕ) (counted : Option Counts) (counts : Counts) (run : Record)
-    → left ≡ standing_rows (tree_setup run.plan) (end_of run) → counts ≡ counts_of run
-    → ◌≡◌ {A = State} (record { rounds = rounds; draft = d; compiled = compiled; built = built; standing = left; runs = count + 1; counted = Some counts })
-    (after_run (record { rounds = rounds; draft = d; compiled = compiled; built = built; standing = standing; runs = count; counted = counted }) run)
-run_state rounds d compiled built standing left count counted counts run rows same =
-    ap (λ l. record { rounds = rounds; draft = d; compiled = compiled; built = built; standing = l; runs = count + 1; counted = Some counts }) rows
-    ∙ ap (λ x. record { rounds = rounds; draft = d; compiled = compiled; built = built; standing = standing_rows (tree_setup run.plan) (end_of run); runs = count + 1; counted = Some x }) same
+pub run_state : (st : State) (left : List (Option Row)) (counts : Counts) (run : Record) → left ≡ standing_rows (tree_setup run.plan) (end_of run) → counts ≡ counts_of run
+    → ◌≡◌ {A = State} (record st { standing = left; runs = st.runs + 1; counted = Some counts }) (after_run st run)
+run_state st left counts run rows same =
+    ap (λ l. record st { standing = l; runs = st.runs + 1; counted = Some counts }) rows ∙ ap (λ x. record st { standing = standing_rows (tree_setup run.plan) (end_of run); runs = st.runs + 1; counted = Some x }) same
 
 pub same_counts : (a b : Counts) → a.rounds ≡ b.rounds → a.packets ≡ b.packets → a.deflected ≡ b.deflected → a.configs ≡ b.configs → a ≡ b
 same_counts a b r p d c =
@@ -259,36 +256,15 @@ same_counts a b r p d c =
     ∙ ap (λ x. record { rounds = b.rounds; packets = b.packets; deflected = x; configs = a.configs }) d
     ∙ ap (λ x. record { rounds = b.rounds; packets = b.packets; deflected = b.deflected; configs = x }) c
 
--- a record that fits what a state holds fits the state
-pub fits_state : (order : Order) (st : State) (run : Record) → FitsNow order st.rounds st.draft st.standing run → FitsRun order st run
-fits_state order st run h = record { plan = h.plan; runnable = h.runnable; means = h.means; legal = h.legal; over = h.over; ordered = h.ordered }
-
--- a run leaves rows for a tree of the design's depth
-pub left_stand : (order : Order) (rounds : ℕ) (d : DraftState) (standing left : List (Option Row)) (run : Record) → FitsNow order rounds d standing run → AreStanding run.plan.depth left → AreStanding d.design.depth left
-left_stand order rounds d standing left run fit h = subst (λ (p : PlanValue). AreStanding p.depth left) fit.plan h
-
--- what was written is the reply
-pub said : (names outs : List (List ℕ)) (d : DraftState) (run : RunValue) (old reply : List ℕ)
-    → reply ≡ old ++ run_reply (name_in names) (name_in outs) (length run.plan.pages) run.plan.outs (shown (setup_for run) (state_of run)) → old ≡ []
-    → names ≡ operator_names d.design → outs ≡ outputs d.design.channels → reply ≡ ran_reply d (record { plan = run.plan; journal = run.journal })
-said names outs d run old reply e none n o =
-    let text : List (List ℕ) → List (List ℕ) → List ℕ = λ x y. run_reply (name_in x) (name_in y) (length run.plan.pages) run.plan.outs (shown (setup_for run) (state_of run)) in
-    e ∙ ap (λ l. l ++ text names outs) none ∙ ap (λ x. text x outs) n ∙ ap (λ x. text (operator_names d.design) x) o
-
 pub below : (n m : ℕ) → n < m → nat_lt n m ≡ true
 below n m h = grind (arith, nat_tests, h)
 
--- the record of a run stands last
-pub recorded : (old mid new : List Record) (made run : Record) → mid ≡ old → new ≡ mid ++ made ∷ [] → made.plan ≡ run.plan → made.journal ≡ run.journal → new ≡ old ++ run ∷ []
-recorded old mid new made run e p plan journal =
-    p ∙ ap (λ l. l ++ made ∷ []) e ∙ ap (λ x. old ++ (record { plan = x; journal = made.journal }) ∷ []) plan ∙ ap (λ x. old ++ (record { plan = run.plan; journal = x }) ∷ []) journal
-
 -- a run that isn't made leaves nothing
-pub not_yet : (order : Order) (st : State) (number : ℕ) (old new : Bench Record) → st.built ≡ true → nat_lt st.runs most_runs ≡ true → new.records.items ≡ old.records.items → new.permits ≡ old.permits → Broke (runs st number) (FitsRun order st) old new
-not_yet order st number old new built few records permits =
+pub not_yet : (st : State) (number : ℕ) (old new : Bench Record) → st.built ≡ true → nat_lt st.runs most_runs ≡ true → new.records.items ≡ old.records.items → new.permits ≡ old.permits → Broke (runs st number) old new
+not_yet st number old new built few records permits =
     let Built : Bool → Step State Record = λ b. if b then runs_built st number else Says (refuses st number refusal.NotBuilt) in
     let Few : Bool → Step State Record = λ b. if b then Runs (ran st) else Says (refuses st number refusal.TooManyRuns) in
-    subst (λ x. Broke x (FitsRun order st) old new) (sym (ap Built built ∙ ap Few few)) (inl (records, permits))
+    subst (λ x. Broke x old new) (sym (ap Built built ∙ ap Few few)) (records, permits)
 
 pub on_err : {A E : Type 0} {P : Type 0} (r : Result A E) → P → OnErr r P
 on_err (Ok x) h = tt
@@ -302,3 +278,26 @@ took order st number run old new reply next built few fit records permits said s
     let Few : Bool → Step State Record = λ b. if b then Runs (ran st) else Says (refuses st number refusal.TooManyRuns) in
     let same : runs st number ≡ Runs (ran st) = ap Built built ∙ ap Few few in
     subst (λ x. Took x (FitsRun order st) old new reply false next) (sym same) (run, record { fit = fit; last = records }, record { says = said; flag = refl; state = state; spent = omega (arith, permits) })
+
+-- the record of a run that was made fits the state
+pub fits_made : (order : Order) (st : State) (plan : PlanValue) (old new : List Record) (names outs : List (List ℕ)) (said : List ℕ) (left : List (Option Row)) (counts : Counts)
+    → CanRun st plan → (made : IsMade order plan old new names outs said left counts) → FitsRun order st made.run
+fits_made order st plan old new names outs said left counts can made = record {
+  plan = made.plan ∙ can.plan;
+  runnable = can.runnable;
+  means = can.means;
+  legal = made.legal;
+  over = made.over;
+  ordered = made.ordered;
+}
+
+-- what was said is the reply
+pub said_made : (order : Order) (st : State) (plan : PlanValue) (old new : List Record) (names outs : List (List ℕ)) (said : List ℕ) (left : List (Option Row)) (counts : Counts)
+    → (made : IsMade order plan old new names outs said left counts) → names ≡ operator_names st.draft.design → outs ≡ outputs st.draft.design.channels → said ≡ ran_reply st.draft made.run
+said_made order st plan old new names outs said left counts made n o =
+    let text : List (List ℕ) → List (List ℕ) → List ℕ = λ x y. run_reply (name_in x) (name_in y) (length made.run.plan.pages) made.run.plan.outs (shown_by made.run) in
+    made.says ∙ ap (λ x. text x outs) n ∙ ap (λ x. text (operator_names st.draft.design) x) o
+
+-- what holds of a state holds of those that hold the same of a run
+pub can_hold : (st : State) (plan : PlanValue) → CanRun (holding st.rounds st.draft st.standing) plan → CanRun st plan
+can_hold st plan can = record { plan = can.plan; runnable = can.runnable; means = can.means }

@@ -1,5 +1,5 @@
 -- A run of a session's design: what is run, the reply, and what its record is.
-use Rattle.std.specs.Prelude.{◌≡◌, ℕ, true, List, [], length, map, Option, None, IsSome}
+use Rattle.std.specs.Prelude.{◌≡◌, ℕ, true, List, [], ◌∷◌, ◌++◌, length, map, Option, None, IsSome}
 use Rattle.pld_base.specs.Process.{Process}
 use Rattle.net_switch.specs.declared.packet.Row.{Row}
 use Rattle.net_tree.specs.Links.{Links}
@@ -17,6 +17,7 @@ use Rattle.fabric_run.specs.Trees.{tree_setup}
 use Rattle.fabric_core.specs.declared.counts.Counts.{Counts}
 use Rattle.fabric_core.specs.declared.fabric.Record.{Record}
 use Rattle.fabric_plan.specs.Plans.{Given, plan_of}
+use Rattle.fabric_plan.specs.Standing.{standing_rows}
 use Rattle.fabric_plan.specs.Runnable.{IsRunnable, KeepMeaning}
 use Rattle.pld_runner.specs.Orders.{Order, IsOrdered}
 use Rattle.pld_session.specs.States.{State, images, leaves}
@@ -73,10 +74,26 @@ pub record FitsRun (order : Order) (st : State) (run : Record) : Type 0 where
   pub over : IsSome (outcome (tree_setup run.plan) (end_of run))
   pub ordered : IsOrdered order run.plan run.journal
 
+-- A run with this plan can be made from the session's state: it is the plan of the design as it stands, which can be run and whose images do
+-- what its operators mean.
+pub record CanRun (st : State) (plan : PlanValue) : Type 0 where
+  pub plan : plan ≡ plan_in st
+  pub runnable : IsRunnable st.draft.design (given_in st)
+  pub means : KeepMeaning (images st.draft) (meanings st.draft)
+
+-- A run of this plan was made: its record, whose journal is legal, over first at its end, and stands in this order, is the last one; and this is
+-- its reply, for these names of operators and outputs, these are the rows that it leaves, and so it has counted.
+pub record IsMade (order : Order) (plan : PlanValue) (old new : List Record) (names outs : List (List ℕ)) (said : List ℕ) (left : List (Option Row)) (counts : Counts) : Type 0 where
+  pub run : Record
+  pub plan : run.plan ≡ plan
+  pub legal : IsLegal (tree_setup run.plan) run.journal
+  pub over : IsSome (outcome (tree_setup run.plan) (end_of run))
+  pub ordered : IsOrdered order run.plan run.journal
+  pub last : new ≡ old ++ run ∷ []
+  pub says : said ≡ reply (name_in names) (name_in outs) (length run.plan.pages) run.plan.outs (shown_by run)
+  pub rows : left ≡ standing_rows (tree_setup run.plan) (end_of run)
+  pub counts : counts ≡ counts_of run
+
 -- a state that holds this, of which it is asked what its runs are
 abbrev pub holding : ℕ → DraftState → List (Option Row) → State
 holding rounds d standing = record { rounds = rounds; draft = d; compiled = []; built = true; standing = standing; runs = 0; counted = None }
-
--- the record of a run fits a state that holds this
-abbrev pub FitsNow : Order → ℕ → DraftState → List (Option Row) → Record → Type 0
-FitsNow order rounds d standing run = FitsRun order (holding rounds d standing) run

@@ -1,21 +1,23 @@
 //! Runs of a design.
 
-ghost use Rattle.std.specs.Prelude.{◌≡◌, ◌≤◌, length, IfOk};
+ghost use Rattle.std.specs.Prelude.{◌≡◌, ◌+◌, ◌<◌, ◌≤◌, ◌^◌, List, [], length, vec_len, vec_capacity, IfOk, OnOk, IfErr};
 ghost use Rattle.std.specs.List.{All};
 ghost use Rattle.pld_base.specs.Words.{IsWord};
+ghost use Rattle.pld_base.specs.Process.{Process};
 ghost use Rattle.pld_graph.specs.Design.{outputs as outputs_of};
 ghost use Rattle.pld_draft.specs.Draft.{words_of};
 ghost use Rattle.pld_link.specs.Seats.{operator_names as names_of};
-ghost use Rattle.fabric_plan.specs.Plans.{allowed as allowed_rounds};
+ghost use Rattle.fabric_run.specs.Reply.{name_in};
+ghost use Rattle.fabric_ends.specs.Planned.{IsDesign};
 ghost use Rattle.fabric_plan.specs.Standing.{AreStanding};
-ghost use Rattle.pld_reply.specs.Sizes.{run_room};
 ghost use Rattle.fabric_plan.specs.Runnable.{IsRunnable, KeepMeaning};
+ghost use Rattle.pld_reply.specs.Sizes.{AreShort, run_room};
 ghost use Rattle.pld_session.specs.States.{IsBuild, images as images_of};
-ghost use Rattle.pld_session.specs.Runs.{feeds as feeds_of, meanings, given_in, holding, FitsNow};
+ghost use Rattle.pld_session.specs.Runs.{feeds as feeds_of, meanings, given_in, holding, CanRun, IsMade};
 
 use crate::build::Build;
-use fabric_core::{Fabric, Feed};
-use fabric_plan::{allowed, plan, plans_are_designs};
+use fabric_core::{Counts, Fabric, Feed, Record};
+use fabric_plan::{leave_rows, plan};
 use net_switch::Row;
 use pld_base::{Name, NoMemory};
 use pld_build::{images_are_forms, images_keep_the_meaning, sources_are_processes};
@@ -24,11 +26,12 @@ use pld_graph::Graph;
 use pld_image::{Image, cores_are_processes};
 use pld_io::Gate;
 use pld_place::operators_have_leaves;
+use pld_reply::{put_run, run_replies_are_short, runs_have_outs};
 use pld_runner::Runner;
 use std::alloc::Global;
 
 /// The names of the operators, in the order of declaration.
-pub fn operator_names(alloc: Global, graph: &Graph) -> Result<Vec<Name>, NoMemory>
+fn operator_names(alloc: Global, graph: &Graph) -> Result<Vec<Name>, NoMemory>
     ensures { IfOk result (λ names. names.items ≡ names_of graph.now) }
 {
     let mut names = Vec::new(alloc);
@@ -40,7 +43,7 @@ pub fn operator_names(alloc: Global, graph: &Graph) -> Result<Vec<Name>, NoMemor
 }
 
 /// The names of the outputs, in the order of declaration.
-pub fn output_names(alloc: Global, graph: &Graph) -> Result<Vec<Name>, NoMemory>
+fn output_names(alloc: Global, graph: &Graph) -> Result<Vec<Name>, NoMemory>
     ensures { IfOk result (λ names. names.items ≡ outputs_of graph.now.channels) }
 {
     let mut names = Vec::new(alloc);
@@ -105,25 +108,6 @@ fn copied_rows(alloc: Global, rows: &[Option<Row>]) -> Result<Vec<Option<Row>>, 
 /// The slots of all 64 leaves.
 const ALL_SLOTS: usize = 1024;
 
-/// Room for the rows that a run leaves.
-pub fn rows_room(alloc: Global) -> Result<Vec<Option<Row>>, NoMemory>
-    ensures { IfOk result (λ rows. length rows.items ≡ 1024) }
-{
-    Ok(vec![in alloc; None; ALL_SLOTS]?)
-}
-
-/// Room for the reply to a run of this design: how it ended, a line for each operator and one for each output, which has
-/// at most a word a round.
-pub fn reply_room(graph: &Graph, rounds: u64) -> usize
-    requires { rounds ≤ 1000000 }
-    ensures { result ≡ run_room (length graph.now.operators) (length (outputs_of graph.now.channels)) (allowed_rounds rounds (length graph.now.operators)) }
-{
-    let operators = graph.operators();
-    let _channels = graph.channels();
-    let rounds = allowed(rounds, operators as u64) as usize;
-    27 + 47 * operators + (58 + 11 * rounds) * graph.outputs()
-}
-
 /// A design that was built can be run, and its images do what its operators mean.
 fn built_designs_run(
     rounds: u64,
@@ -149,26 +133,21 @@ fn built_designs_run(
     let _operators = graph.operators();
 }
 
-/// Has a design run as it was built, with the words of its inputs, where these rows stand at the leaves; a run may make so many
-/// rounds. All memory of the run is taken before its first entry.
-pub fn run_design<X: Runner>(
+/// The run of a design as it was built, with the words of its inputs, where these rows stand at the leaves; it may make so many
+/// rounds. It has not begun, and all memory of its own is taken.
+pub fn prepare_run(
     alloc: Global,
-    runner: &X,
-    gate: &(dyn Gate + Sync),
     rounds: u64,
     draft: &Draft,
     build: &Build,
     standing: &[Option<Row>],
 ) -> Result<Fabric, NoMemory>
-    requires ready { X.ready }
     requires some { 1 ≤ rounds }
     requires most { rounds ≤ 1000000 }
     requires built { IsBuild draft.now build.now }
     requires standing { AreStanding draft.now.design.depth standing.now }
-    ensures fits { IfOk result (λ fabric. FitsNow X.order rounds draft.now standing.now (record { plan = fabric.plan; journal = fabric.journal })) }
-    ensures pages { IfOk result (λ fabric. length fabric.plan.pages ≡ length draft.now.design.operators) }
+    ensures { IfOk result (λ fabric. (fabric.journal ≡ []) × CanRun (holding rounds draft.now standing.now) fabric.plan) }
 {
-    plans_are_designs();
     let graph = draft.graph();
     let images = copies(alloc, &build.images)?;
     let before = copied_rows(alloc, standing)?;
@@ -177,7 +156,100 @@ pub fn run_design<X: Runner>(
     built_designs_run(rounds, draft, build, standing, &feeds);
     let leaves = build.placement.leaf_of();
     let plan = plan(alloc, graph, leaves, images, before, tables, feeds, rounds)?;
-    let fabric = runner.run(alloc, Fabric::prepare(alloc, plan)?, gate)?;
+    Fabric::prepare(alloc, plan)
+}
+
+/// What the reply to a run tells by name: its operators and its outputs, in the order of declaration.
+#[derive(Drop)]
+pub struct Names {
+    operators: Vec<Name>,
+    outputs: Vec<Name>,
+}
+
+impl Names {
+    /// Those of a design.
+    pub fn new(alloc: Global, graph: &Graph) -> Result<Names, NoMemory>
+        ensures operators { IfOk result (λ names. names.operators.items ≡ names_of graph.now) }
+        ensures outputs { IfOk result (λ names. names.outputs.items ≡ outputs_of graph.now.channels) }
+    {
+        let operators = operator_names(alloc, graph)?;
+        let outputs = output_names(alloc, graph)?;
+        Ok(Names { operators, outputs })
+    }
+}
+
+/// A name is at most 32 bytes long.
+fn are_short(names: &[Name])
+    ensures { AreShort (name_in names.now) }
+{
+    let _ = names;
+}
+
+/// Room for the reply to a run: how it ended, a line for each operator and one for each output, which has at most a word a round.
+fn reply_room(fabric: &Fabric) -> usize
+    ensures room { result ≡ run_room (length fabric.now.plan.pages) fabric.now.plan.outs fabric.now.plan.rounds }
+    ensures rounds { fabric.now.plan.rounds < 2 ^ 64 }
+{
+    let plan = fabric.plan();
+    27 + 47 * plan.pages() + (58 + 11 * plan.rounds() as usize) * plan.outs()
+}
+
+/// Takes all room that the end of a run needs: for its record, for its reply, and for the rows that it leaves.
+fn take_room(
+    alloc: Global,
+    fabric: &Fabric,
+    records: &mut Vec<Record>,
+    reply: &mut Vec<u8>,
+) -> Result<Vec<Option<Row>>, NoMemory>
+    ensures rows { IfOk result (λ rows. length rows.items ≡ 1024) }
+    ensures record { OnOk result (vec_len records.new < vec_capacity records.new) }
+    ensures reply { OnOk result (vec_len reply.new + run_room (length fabric.now.plan.pages) fabric.now.plan.outs fabric.now.plan.rounds ≤ vec_capacity reply.new) }
+    ensures same { (records.new.items ≡ records.old.items) × (reply.new.items ≡ reply.old.items) }
+    ensures rounds { fabric.now.plan.rounds < 2 ^ 64 }
+{
+    let room = reply_room(fabric);
+    records.reserve(1)?;
+    reply.reserve(room)?;
+    Ok(vec![in alloc; None; ALL_SLOTS]?)
+}
+
+/// Makes a run that has not begun, of a plan for some design. Its record is put behind the others, its reply is written, and the
+/// rows come back that it leaves, with what it has counted. Memory is wanted only before its first entry: then the run comes back
+/// as it was, and no record was put. A run that has begun is answered.
+pub fn make_run<X: Runner>(
+    alloc: Global,
+    runner: &X,
+    gate: &(dyn Gate + Sync),
+    fabric: Fabric,
+    names: &Names,
+    records: &mut Vec<Record>,
+    reply: &mut Vec<u8>,
+) -> Result<(Vec<Option<Row>>, Counts), (Fabric, NoMemory)>
+    requires ready { X.ready }
+    requires new { fabric.journal ≡ [] }
+    requires design { (operators : List Process) × IsDesign fabric.plan operators }
+    requires operators { length names.now.operators.items ≡ length fabric.plan.pages }
+    requires outputs { length names.now.outputs.items ≡ fabric.plan.outs }
+    requires empty { reply.old.items ≡ [] }
+    ensures made { IfOk result (λ end. IsMade X.order fabric.plan records.old.items records.new.items names.now.operators.items names.now.outputs.items reply.new.items end.0.items end.1) }
+    ensures stand { IfOk result (λ end. AreStanding fabric.plan.depth end.0.items) }
+    ensures err { IfErr result (λ e. (e.0 ≡ fabric) × (records.new.items ≡ records.old.items)) }
+{
+    runs_have_outs();
+    run_replies_are_short();
+    let operators = &names.operators;
+    let outputs = &names.outputs;
+    are_short(operators);
+    are_short(outputs);
+    let mut left = match take_room(alloc, &fabric, records, reply) {
+        Ok(left) => left,
+        Err(NoMemory) => return Err((fabric, NoMemory)),
+    };
+    let fabric = runner.run(alloc, fabric, gate)?;
     fabric.is_legal();
-    Ok(fabric)
+    put_run(reply, operators, outputs, &fabric).unwrap();
+    leave_rows(&fabric, &mut left);
+    let counts = fabric.counts();
+    records.push(fabric.finish()).unwrap();
+    Ok((left, counts))
 }

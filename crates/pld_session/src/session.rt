@@ -10,9 +10,9 @@ ghost use Rattle.pld_driver.specs.Moments.{Took, Broke};
 
 use crate::build::{Build, build_design, placed_pages};
 use crate::edits::{answer_edit, refuse};
-use crate::runs::{operator_names, output_names, reply_room, rows_room, run_design};
+use crate::runs::{Names, make_run, prepare_run};
 use fabric_core::{Counts, Record};
-use fabric_plan::leave_rows;
+use fabric_plan::plans_are_designs;
 use net_switch::Row;
 use par_build::Compile;
 use pld_base::{Name, NoMemory, Refused};
@@ -24,7 +24,7 @@ use pld_image::image_bytes;
 use pld_io::Gate;
 use pld_link::rows_stand_in_order;
 use pld_place::{TooFewPages, operators_have_leaves};
-use pld_reply::{Refusal, put_built, put_image, put_run, put_stats, put_tables};
+use pld_reply::{Refusal, put_built, put_image, put_stats, put_tables};
 use pld_runner::Runner;
 use pld_script::{Edit, Statement};
 use std::alloc::Global;
@@ -131,7 +131,7 @@ impl Session {
         requires empty { reply.old.items ≡ [] }
         requires room { bench.old.permits + 64 < 2 ^ 64 }
         ensures ok { IfOk result (λ refused. Took (answer_to self.old number (Some Statement.Build)) (FitsRun X.order self.old) bench.old bench.new reply.new.items refused self.new) }
-        ensures err { OnErr result (Broke (answer_to self.old number (Some Statement.Build)) (FitsRun X.order self.old) bench.old bench.new) }
+        ensures err { OnErr result (Broke (answer_to self.old number (Some Statement.Build)) bench.old bench.new) }
         ensures few { bench.new.permits ≤ bench.old.permits + 64 }
     {
         pairs_are_few();
@@ -214,8 +214,7 @@ impl Session {
         Ok(false)
     }
 
-    /// Runs the design as it was built, with the words of its inputs as they stand. Room for the reply, for the record and for
-    /// the rows that the run leaves is taken before the run.
+    /// Runs the design as it was built, with the words of its inputs as they stand. All memory is taken before the run's first entry.
     fn run<X: Runner>(
         &mut self,
         alloc: Global,
@@ -228,7 +227,7 @@ impl Session {
         requires ready { X.ready }
         requires empty { reply.old.items ≡ [] }
         ensures ok { IfOk result (λ refused. Took (answer_to self.old number (Some Statement.Run)) (FitsRun X.order self.old) bench.old bench.new reply.new.items refused self.new) }
-        ensures err { OnErr result (Broke (answer_to self.old number (Some Statement.Run)) (FitsRun X.order self.old) bench.old bench.new) }
+        ensures err { OnErr result (Broke (answer_to self.old number (Some Statement.Run)) bench.old bench.new) }
         ensures few { bench.new.permits ≤ bench.old.permits + 64 }
     {
         let Some(build) = &self.build else {
@@ -239,25 +238,17 @@ impl Session {
         }
         let _sources = self.draft.sources();
         let graph = self.draft.graph();
-        let names = operator_names(alloc, graph)?;
-        let outputs = output_names(alloc, graph)?;
-        bench.records.reserve(1)?;
-        reply.reserve(reply_room(graph, self.rounds))?;
-        let mut left = rows_room(alloc)?;
-        let fabric = run_design(
-            alloc,
-            runner,
-            gate,
-            self.rounds,
-            &self.draft,
-            build,
-            &self.standing,
-        )?;
-        put_run(reply, names.as_slice(), outputs.as_slice(), &fabric)?;
-        leave_rows(&fabric, &mut left);
+        let _operators = graph.operators();
+        plans_are_designs();
+        let names = Names::new(alloc, graph)?;
+        let fabric = prepare_run(alloc, self.rounds, &self.draft, build, &self.standing)?;
+        let records = &mut bench.records;
+        let (left, counts) = match make_run(alloc, runner, gate, fabric, &names, records, reply) {
+            Ok(end) => end,
+            Err((_, NoMemory)) => return Err(NoMemory),
+        };
         self.standing = left;
-        self.counted = Some(fabric.counts());
-        bench.records.push(fabric.finish())?;
+        self.counted = Some(counts);
         self.runs += 1;
         Ok(false)
     }
@@ -278,7 +269,7 @@ impl Session {
         requires empty { reply.old.items ≡ [] }
         requires room { bench.old.permits + 64 < 2 ^ 64 }
         ensures ok { IfOk result (λ refused. Took (answer_to self.old number (Some statement)) (FitsRun X.order self.old) bench.old bench.new reply.new.items refused self.new) }
-        ensures err { OnErr result (Broke (answer_to self.old number (Some statement)) (FitsRun X.order self.old) bench.old bench.new) }
+        ensures err { OnErr result (Broke (answer_to self.old number (Some statement)) bench.old bench.new) }
         ensures few { bench.new.permits ≤ bench.old.permits + 64 }
     {
         match statement {

@@ -3,6 +3,6 @@ use Rattle.pld_reply.proofs.plain.put_stats.Goals as goal
 
 pub returns : goal.returns
 returns c =
-    on_ok c.put_text-5.result c.put_text-5.ensures (λ e.
+    on_ok c.put_text-5.result c.put_text-5.ensures.text (λ e.
     joins_nine _ _ _ _ _ _ _ _ _ _ _ _ _ _ _ _ _ _ _
-    c.in_ok-put_text.ensures c.in_ok-put_number.ensures c.in_ok-put_text-2.ensures c.in_ok-put_number-2.ensures c.in_ok-put_text-3.ensures c.in_ok-put_number-3.ensures c.in_ok-put_text-4.ensures c.in_ok-put_number-4.ensures e)
+    c.in_ok-put_text.ensures.text c.in_ok-put_number.ensures.text c.in_ok-put_text-2.ensures.text c.in_ok-put_number-2.ensures.text c.in_ok-put_text-3.ensures.text c.in_ok-put_number-3.ensures.text c.in_ok-put_text-4.ensures.text c.in_ok-put_number-4.ensures.text e)

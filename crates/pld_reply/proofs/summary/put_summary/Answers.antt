@@ -13,5 +13,5 @@ returns c =
     let text : Option Outcome → List ℕ → List ℕ = λ end words. c.args.reply.now.items ++ ((((((head ++ outcome_word end) ++ codes " words ") ++ decimal (length words)) ++ codes " sum ") ++ decimal (word_sum words)) ++ codes "\n") in
     on_ok c.put_words_summed.result c.put_words_summed.ensures (λ e.
     joins_seven _ _ _ _ _ _ _ _ _ _ _ _ _ _ _ _ _ _ _
-    c.in_ok-put_text.ensures c.in_ok-put_number.ensures c.in_ok-put_text-2.ensures c.in_ok-put_number-2.ensures c.in_ok-put_text-3.ensures c.in_ok-put_outcome_word.ensures e
+    c.in_ok-put_text.ensures.text c.in_ok-put_number.ensures.text c.in_ok-put_text-2.ensures.text c.in_ok-put_number-2.ensures.text c.in_ok-put_text-3.ensures.text c.in_ok-put_outcome_word.ensures e
     ∙ ap (λ end. text end c.out.result.now) c.over.ensures ∙ ap (λ words. text (outcome (setup_for c.args.fabric.now) (state_of c.args.fabric.now)) words) c.out.ensures)

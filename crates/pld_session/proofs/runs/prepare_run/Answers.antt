@@ -1,16 +1,17 @@
-use Rattle.std.proofs.Common.{◌≡◌, refl, sym, ap, ◌∙◌, subst, rules, length}
+use Rattle.std.proofs.Common.{◌≡◌, refl, sym, ap, ◌∙◌, subst}
 use Rattle.pld_link.specs.Seats.{numbers}
 use Rattle.fabric_run.specs.Plan.{PlanValue}
 use Rattle.fabric_core.specs.Runs.{RunValue}
 use Rattle.fabric_plan.specs.Plans.{Given, plan_of}
 use Rattle.fabric_plan.specs.Runnable.{IsRunnable}
 use Rattle.pld_session.specs.States.{BuildValue, images, leaves}
-use Rattle.pld_session.specs.Runs.{given_in, holding, plan_in, meanings}
+use Rattle.pld_session.specs.Runs.{given_in, holding, plan_in, CanRun}
+use Rattle.pld_session.proofs.Told.{if_ok}
 use Rattle.pld_session.proofs.Running.{same_given}
-use Rattle.pld_session.proofs.runs.run_design.Goals as goal
+use Rattle.pld_session.proofs.runs.prepare_run.Goals as goal
 
 pub plan-requires-clause-runnable : goal.plan-requires-clause-runnable
-plan-requires-clause-runnable g c =
+plan-requires-clause-runnable c =
     let d = c.args.draft.now in
     let given : Given = record {
       leaves = numbers c.leaf_of-leaves.result.now;
@@ -24,9 +25,10 @@ plan-requires-clause-runnable g c =
     let same = same_given (given_in (holding c.args.rounds d c.args.standing.now)) given l i (sym c.in_ok-before.ensures) (sym c.in_ok-feeds.ensures.value) refl in
     subst (λ g. IsRunnable g given) (sym c.graph-graph.ensures) (subst (λ x. IsRunnable d.design x) same c.built_designs_run.ensures.runnable)
 
-pub returns-clause-fits : goal.returns-clause-fits
-returns-clause-fits g c =
+pub returns : goal.returns
+returns c =
     let d = c.args.draft.now in
+    let st = holding c.args.rounds d c.args.standing.now in
     let given : Given = record {
       leaves = numbers c.leaf_of-leaves.result.now;
       images = c.in_ok-images.images.items;
@@ -36,21 +38,9 @@ returns-clause-fits g c =
     } in
     let l : leaves d ≡ numbers c.leaf_of-leaves.result.now = sym (c.leaf_of-leaves.ensures ∙ ap (λ (b : BuildValue). b.leaves) c.build.view_is ∙ c.requires.built.leaves) in
     let i : images d ≡ c.in_ok-images.images.items = sym (c.in_ok-images.ensures ∙ c.deref.ensures.value ∙ ap (λ (b : BuildValue). b.images) c.build.view_is ∙ c.requires.built.images) in
-    let same = same_given (given_in (holding c.args.rounds d c.args.standing.now)) given l i (sym c.in_ok-before.ensures) (sym c.in_ok-feeds.ensures.value) refl in
-    let planned : c.in_ok-plan.plan ≡ plan_in (holding c.args.rounds d c.args.standing.now) = c.in_ok-plan.ensures ∙ ap (λ g. plan_of g given) c.graph-graph.ensures ∙ ap (plan_of d.design) (sym same) in
-    let is : c.in_ok-fabric.fabric.plan ≡ plan_in (holding c.args.rounds d c.args.standing.now) = c.in_ok-fabric.ensures.plan ∙ ap (λ (r : RunValue). r.plan) c.in_ok-prepare.ensures ∙ planned in
-    record {
-      plan = is;
-      runnable = c.built_designs_run.ensures.runnable;
-      means = c.built_designs_run.ensures.means;
-      legal = search rules;
-      over = search rules;
-      ordered = search rules;
-    }
-
-pub returns-clause-pages : goal.returns-clause-pages
-returns-clause-pages g c =
-    let st = holding c.args.rounds c.args.draft.now c.args.standing.now in
-    let fit = returns-clause-fits g c in
-    let design = c.plans_are_designs.ensures.design c.args.draft.now.design (given_in st) (meanings c.args.draft.now) fit.runnable fit.means in
-    ap (λ (p : PlanValue). length p.pages) fit.plan ∙ sym design.as_many ∙ fit.means.many ∙ fit.runnable.images.many
+    let same = same_given (given_in st) given l i (sym c.in_ok-before.ensures) (sym c.in_ok-feeds.ensures.value) refl in
+    let planned : c.in_ok-plan.plan ≡ plan_in st = c.in_ok-plan.ensures ∙ ap (λ g. plan_of g given) c.graph-graph.ensures ∙ ap (plan_of d.design) (sym same) in
+    if_ok c.prepare.result (λ fabric e. (
+      ap (λ (r : RunValue). r.journal) e,
+      record { plan = ap (λ (r : RunValue). r.plan) e ∙ planned; runnable = c.built_designs_run.ensures.runnable; means = c.built_designs_run.ensures.means },
+    )) c.prepare.ensures
