@@ -1,8 +1,9 @@
-// A tree of switches that deflect, in plain Rust, by the same rules as crates/net_tree: 64 leaves, one upward link for each switch below the
-// top. Each switch takes the packets that stand on its links from the oldest on; each gets the output that it wants, else the first free
-// one of up, left, right.
+// A tree of switches that deflect, in plain Rust, by the same rules as crates/net_tree: at most 64 leaves, one upward link for each switch
+// below the top. Each switch takes the packets that stand on its links from the oldest on; each gets the output that it wants, else the first
+// free one of up, left, right.
 
-pub const DEPTH: usize = 6;
+// The depth of the widest tree.
+const DEPTH: usize = 6;
 
 #[allow(dead_code)]
 #[derive(Clone, Copy)]
@@ -50,6 +51,7 @@ impl Links {
 }
 
 pub struct Tree {
+    depth: usize,
     links: Box<Links>,
     spare: Box<Links>,
     pub deflected: u64,
@@ -66,8 +68,8 @@ fn pairs(mut links: u64) -> u64 {
 }
 
 impl Tree {
-    pub fn new() -> Tree {
-        Tree { links: Links::new(), spare: Links::new(), deflected: 0 }
+    pub fn new(depth: usize) -> Tree {
+        Tree { depth, links: Links::new(), spare: Links::new(), deflected: 0 }
     }
 
     pub fn arrival(&mut self, leaf: usize) -> Link {
@@ -80,7 +82,7 @@ impl Tree {
 
     // The switch over the links 2 * index and 2 * index + 1 of a level routes.
     fn route(&mut self, level: usize, index: usize) {
-        let top = level + 1 == DEPTH;
+        let top = level + 1 == self.depth;
         let (links, next) = (&*self.links, &mut *self.spare);
         let none = None;
         let ins = [&links.up[level][2 * index], &links.up[level][2 * index + 1], if top { &none } else { &links.down[level + 1][index] }];
@@ -121,9 +123,9 @@ impl Tree {
     }
 
     pub fn round(&mut self, offers: &[Link; 64]) {
-        for level in 0..DEPTH {
+        for level in 0..self.depth {
             let mut busy = pairs(self.links.ups[level]);
-            if level + 1 < DEPTH {
+            if level + 1 < self.depth {
                 busy |= self.links.downs[level + 1];
             }
             while busy != 0 {

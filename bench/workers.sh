@@ -1,17 +1,22 @@
 #!/bin/bash
-# How long runs take by workers: `pld work` with 1, 2 and 4 workers beside `pld plain`, over four sessions: eight busy softcores; eight busy
-# hardware pages with long expressions; a chain of 16 pages with 20,000 words; and 60 pages of which most stand at a read. The replies must be alike.
+# How long runs take by workers: `pld work` with 1, 2 and 4 workers beside `pld plain`, and the same of a plain Rust program of the same rules
+# (workers.rs: threads with a mutex round the run), over four sessions: eight busy softcores; eight busy hardware pages with long
+# expressions; a chain of 16 pages with 20,000 words; and 60 pages of which most stand at a read. All must answer alike, and without
+# workers both programs must count alike.
 #
-# Usage: bench/workers.sh [RUNS]    (5 runs of each by default; wants rt on the path)
-# A line has the least elapsed time of each among these runs, which take turns, in milliseconds, and how many times as long as `plain` it took.
+# Usage: bench/workers.sh [RUNS]    (5 runs of each by default; wants rustc on the path, and rt where PLD doesn't name a built program)
+# A line has the least elapsed time of each among these runs, which take turns, in milliseconds, and how many times as long as the same program's
+# run without workers it took.
 set -eu
 runs=${1:-5}
+rounds=1000000
 here=$(cd "$(dirname "$0")" && pwd)
 dir=$(mktemp -d)
 trap 'rm -rf "$dir"' EXIT
 
 pld=${PLD:-$here/../crates/pld/out/pld}
 [ -x "$pld" ] || (cd "$here/../crates/pld" && rt run -- plain </dev/null >"$dir/log" 2>&1) || { cat "$dir/log"; exit 2; }
+rustc -O -o "$dir/workers" "$here/workers.rs"
 
 # eight pages of one kind, each of which counts for long and writes one word
 busy() {
@@ -21,7 +26,7 @@ busy() {
     echo "end"
     echo "output f$k.o0 y$k"
   done
-  echo build; echo run
+  echo build
 }
 long='s = ((s * 3 + i) ^ (s >> 3)) + ((i * 7 - s) & (s | i)) * ((s + 1) ^ (i + 2)) + ((s << 2) - (i >> 1));'
 busy soft 200000 's = s * 3 + i;' >"$dir/busy_soft"
@@ -31,35 +36,56 @@ busy hard 100000 "$long $long" >"$dir/busy_hard"
 chain() {
   echo "pages 6"
   for k in $(seq "$1"); do
-    echo "op f$k soft"; echo "void f$k(in a, out b) { while (1) { write(b, read(a) + 1); } }" | sed 's/write(b, read(a) + 1);/x = read(a); write(b, x + 1);/; s/{ while/{ uint32_t x; while/'; echo "end"
+    echo "op f$k soft"; echo "void f$k(in a, out b) { uint32_t x; while (1) { x = read(a); write(b, x + 1); } }"; echo "end"
   done
   echo "input s f1.i0"
   for k in $(seq 2 "$1"); do echo "connect f$((k - 1)).o0 f$k.i0"; done
   echo "output f$1.o0 y"
   echo "feed s $(seq -s ' ' "$2")"
-  echo build; echo run
+  echo build
 }
 chain 16 20000 >"$dir/chain16"
 chain 60 1000 >"$dir/chain60"
 
-# elapsed time of a run, in milliseconds
-elapsed() {
-  { TIMEFORMAT='%R'; time "$pld" "${@:2}" --rounds 1000000 <"$dir/$1" >"$dir/out"; } 2>&1 | awk '{ printf "%d\n", $1 * 1000 }'
+# the reply to a run, and with it the one to `stats` behind
+counted() {
+  sed -n '/^\(done\|stalled\|spent\)/,$p'
+}
+answer() {
+  counted | grep -v '^stats'
 }
 
+declare -A least
+
+# One run of a command with this input: its elapsed time, in milliseconds, is kept under a name if it is the least one, and its answer looked at.
+measure() {
+  local name=$1 input=$2 t
+  shift 2
+  { TIMEFORMAT='%3R'; t=$({ time "$@" <"$input" >"$dir/out"; } 2>&1 | awk '{ printf "%d", $1 * 1000 }'); }
+  if [ "$t" -lt "${least[$name]:-999999999}" ]; then least[$name]=$t; fi
+  answer <"$dir/out" | cmp -s - "$dir/answer" || { echo "$asked: $* answers otherwise than plain"; exit 1; }
+}
+
+printf '%-10s %-5s %8s %15s %15s %15s\n' session by plain '1 worker' '2 workers' '4 workers'
 for asked in busy_soft busy_hard chain16 chain60; do
-  line=$asked:
-  "$pld" plain --rounds 1000000 <"$dir/$asked" >"$dir/plain"
-  declare -A least=([plain]=999999999 [1]=999999999 [2]=999999999 [4]=999999999)
+  { cat "$dir/$asked"; echo run; } >"$dir/session"
+  { cat "$dir/$asked"; sed -n 's/^op \(f[0-9]*\) .*/dump image \1/p' "$dir/$asked"; echo dump tables; } | "$pld" plain >"$dir/dumps"
+  { cat "$dir/$asked"; grep -E '^(image|page|row) ' "$dir/dumps"; } >"$dir/design"
+  { cat "$dir/session"; echo stats; } | "$pld" plain --rounds "$rounds" | counted >"$dir/counts"
+  "$dir/workers" "$rounds" 0 <"$dir/design" | cmp - "$dir/counts"
+  answer <"$dir/counts" >"$dir/answer"
+  least=()
   for _ in $(seq "$runs"); do
-    t=$(elapsed "$asked" plain); [ "$t" -lt "${least[plain]}" ] && least[plain]=$t
+    measure pld0 "$dir/session" "$pld" plain --rounds "$rounds"
+    measure Rust0 "$dir/design" "$dir/workers" "$rounds" 0
     for k in 1 2 4; do
-      t=$(elapsed "$asked" work --workers "$k"); [ "$t" -lt "${least[$k]}" ] && least[$k]=$t
-      cmp "$dir/plain" "$dir/out"
+      measure "pld$k" "$dir/session" "$pld" work --workers "$k" --rounds "$rounds"
+      measure "Rust$k" "$dir/design" "$dir/workers" "$rounds" "$k"
     done
   done
-  for k in 1 2 4; do
-    line="$line $k: ${least[$k]} ms ($(awk -v p="${least[plain]}" -v q="${least[$k]}" 'BEGIN { printf "%.2f", q / p }'));"
+  for by in pld Rust; do
+    awk -v asked="$asked" -v by="$by" -v p="${least[${by}0]}" -v a="${least[${by}1]}" -v b="${least[${by}2]}" -v c="${least[${by}4]}" \
+      'BEGIN { printf "%-10s %-5s %8d %8d (%.2f) %8d (%.2f) %8d (%.2f)\n", asked, by, p, a, a / p, b, b / p, c, c / p }'
   done
-  echo "$line plain ${least[plain]} ms"
 done
+echo "all answers were the same"
