@@ -1,27 +1,25 @@
 //! A table with what is made of it once.
 
 ghost use Rattle.std.specs.Prelude.{◌≡◌, ◌<◌, length, get_or, map, IfOk};
-ghost use Rattle.std.specs.Box.{boxed_slice_items};
 ghost use Rattle.fsm_core.specs.declared.micro.State.{State};
 ghost use Rattle.fsm_core.specs.Stands.{stand_of};
 
 use crate::micro::{State, Table};
 use crate::stand::{Stand, stand_of};
+use fixed::Fixed;
 use pld_base::NoMemory;
 use std::alloc::Global;
-use std::boxed::BoxedSlice;
 use std::marker::Model;
 
 /// A table that stays as it is, with where a core stands at each of its states. Nothing of it can grow.
 #[derive(Drop)]
 pub struct Kept {
     table: Table,
-    stands: BoxedSlice<Stand>,
+    stands: Fixed<Stand>,
 }
 
 impl Model for Kept {
     ghost use Rattle.std.specs.Prelude.{◌≡◌, map};
-    ghost use Rattle.std.specs.Box.{boxed_slice_items};
     ghost use Rattle.fsm_core.specs.declared.micro.Table.{Table};
     ghost use Rattle.fsm_core.specs.Stands.{stand_of};
 
@@ -29,18 +27,18 @@ impl Model for Kept {
 
     ghost view = { λ k. k.table };
 
-    ghost invariant = { λ k. boxed_slice_items k.stands ≡ map stand_of k.table.states.items };
+    ghost invariant = { λ k. k.stands ≡ map stand_of k.table.states.items };
 }
 
 // Where a core stands at each of these states.
-fn stands(alloc: Global, states: &[State]) -> Result<BoxedSlice<Stand>, NoMemory>
-    ensures { IfOk result (λ stands. boxed_slice_items stands ≡ map stand_of states.now) }
+fn stands(alloc: Global, states: &[State]) -> Result<Fixed<Stand>, NoMemory>
+    ensures { IfOk result (λ stands. stands ≡ map stand_of states.now) }
 {
     let mut stands = Vec::new(alloc);
     for state in states {
         stands.push(stand_of(state))?;
     }
-    Ok(stands.into_boxed_slice())
+    Ok(Fixed::new(stands))
 }
 
 impl Kept {

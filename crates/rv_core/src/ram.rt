@@ -3,26 +3,25 @@
 ghost use Rattle.std.specs.Prelude.{◌≡◌, ◌<◌, IfOk, slice_index, slice_set};
 ghost use Rattle.rv_core.specs.Core.{IsZeros};
 
+use fixed::Fixed;
 use pld_base::NoMemory;
 use std::alloc::Global;
-use std::boxed::BoxedSlice;
 use std::marker::Model;
 
-/// 16,384 words, which can't become more.
+/// 16,384 words.
 #[derive(Drop)]
 pub(crate) struct Ram {
-    words: BoxedSlice<u32>,
+    words: Fixed<u32>,
 }
 
 impl Model for Ram {
     ghost use Rattle.std.specs.Prelude.{◌≡◌, ℕ, List, length};
-    ghost use Rattle.std.specs.Box.{boxed_slice_items};
 
     ghost Value = { List ℕ };
 
-    ghost view = { λ r. boxed_slice_items r.words };
+    ghost view = { λ r. r.words };
 
-    ghost invariant = { λ r. length (boxed_slice_items r.words) ≡ 16384 };
+    ghost invariant = { λ r. length r.words ≡ 16384 };
 }
 
 // So many words, all 0.
@@ -40,7 +39,7 @@ impl Ram {
     {
         let words = zeros(alloc, 16384)?;
         Ok(Ram {
-            words: words.into_boxed_slice(),
+            words: Fixed::new(words),
         })
     }
 
