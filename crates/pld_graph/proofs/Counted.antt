@@ -1,21 +1,24 @@
--- Inputs and outputs, counted where channels come and go.
-use Rattle.std.proofs.Common.{◌≡◌, ℕ, zero, suc, ◌+◌, ◌-◌, ◌≤◌, List, [], ◌∷◌, ◌++◌, length, Option, Some, None, sym, ap, ◌∙◌, arith, slice_get, length-append}
-use Rattle.std.specs.Prelude.{remove}
+-- Channels, inputs and outputs, counted where channels come and go.
+use Rattle.std.proofs.Common.{◌≡◌, ℕ, zero, suc, ◌+◌, ◌-◌, ◌≤◌, ◌<◌, List, [], ◌∷◌, ◌++◌, length, Option, Some, None, refl, sym, ap, ◌∙◌, arith, length-append}
+use Rattle.std.specs.Prelude.{slice_get, slice_set}
 use Rattle.std.specs.List.{filter_map, cons_option}
 use Rattle.std.proofs.lemmas.Option.{none-some, same_Some}
 use Rattle.std.proofs.lemmas.List.Elements.{filter_map-append}
-use Rattle.std.specs.Map.{keys_of, values_of}
-use Rattle.pld_graph.specs.declared.parts.FromEnd.{FromEnd}
-use Rattle.pld_graph.specs.declared.parts.ToEnd.{ToEnd}
 use Rattle.pld_graph.specs.declared.parts.Channel.{Channel}
+use Rattle.pld_graph.specs.declared.channels.Tally.{Tally}
 use Rattle.pld_graph.specs.Parts.{from_input, to_output}
-use Rattle.pld_graph.specs.Joined.{channel_of, joined}
 use Rattle.pld_graph.specs.Masks.{ones, AreCounted}
-use Rattle.pld_graph.proofs.Ended.{filter_map-map}
+use Rattle.pld_graph.specs.Slots.{live}
 
 cons_length : {Y : Type 0} (o : Option Y) (ys : List Y) → length (cons_option o ys) ≡ length ys + ones o
 cons_length None ys = omega arith
 cons_length (Some y) ys = omega arith
+
+-- no more channels stand than there are slots
+pub live_few : (slots : List (Option Channel)) → length (live slots) ≤ length slots
+live_few [] = omega arith
+live_few (None ∷ slots) = let few = live_few slots in omega (arith, few)
+live_few (Some c ∷ slots) = let few = live_few slots in omega (arith, few)
 
 -- one element more
 pub one_more : {X Y : Type 0} (h : X → Option Y) (xs ys : List X) (x : X) → ys ≡ xs ++ x ∷ [] → length (filter_map h ys) ≡ length (filter_map h xs) + ones (h x)
@@ -24,49 +27,53 @@ one_more h xs ys x e =
     let all = length-append (filter_map h xs) (filter_map h (x ∷ [])) in
     ap (λ zs. length (filter_map h zs)) e ∙ ap length (filter_map-append h xs (x ∷ [])) ∙ omega (arith, last, all)
 
-removed : {X Y : Type 0} (h : X → Option Y) (xs : List X) (k : ℕ) (x : X) → slice_get xs k ≡ Some x → length (filter_map h (remove xs k)) + ones (h x) ≡ length (filter_map h xs)
-removed h [] k x e = absurd (none-some x e)
-removed h (y ∷ ys) zero x e = ap (λ z. length (filter_map h ys) + ones (h z)) (sym (same_Some y x e)) ∙ sym (cons_length (h y) (filter_map h ys))
-removed h (y ∷ ys) (suc k) x e =
-    let rest = removed h ys k x e in
-    let a = cons_length (h y) (filter_map h (remove ys k)) in
-    let b = cons_length (h y) (filter_map h ys) in
+-- of the channels in slots, one less
+one_out : {Y : Type 0} (h : Channel → Option Y) (slots : List (Option Channel)) (k : ℕ) (c : Channel) → slice_get slots k ≡ Some (Some c)
+    → length (filter_map h (live (slice_set slots k None))) + ones (h c) ≡ length (filter_map h (live slots))
+one_out h [] k c at = absurd (none-some (Some c) at)
+one_out h (None ∷ slots) zero c at = absurd (none-some c (same_Some None (Some c) at))
+one_out h (Some d ∷ slots) zero c at = ap (λ z. length (filter_map h (live slots)) + ones (h z)) (sym (same_Some d c (same_Some (Some d) (Some c) at))) ∙ sym (cons_length (h d) (filter_map h (live slots)))
+one_out h (None ∷ slots) (suc k) c at = one_out h slots k c at
+one_out h (Some d ∷ slots) (suc k) c at =
+    let rest = one_out h slots k c at in
+    let a = cons_length (h d) (filter_map h (live (slice_set slots k None))) in
+    let b = cons_length (h d) (filter_map h (live slots)) in
     omega (arith, rest, a, b)
 
--- one element less
-pub one_less : {X Y : Type 0} (h : X → Option Y) (xs ys : List X) (k : ℕ) (x : X) → slice_get xs k ≡ Some x → ys ≡ remove xs k → length (filter_map h ys) + ones (h x) ≡ length (filter_map h xs)
-one_less h xs ys k x there e = ap (λ zs. length (filter_map h zs) + ones (h x)) e ∙ removed h xs k x there
-
--- inputs and outputs are counted anew
-pub all_counted : (es : List (FromEnd × ToEnd)) (ins outs : ℕ) → ins ≡ length (filter_map from_input (keys_of es)) → outs ≡ length (filter_map to_output (values_of es)) → AreCounted (joined es) ins outs
-all_counted es ins outs e f = record {
-  inputs = e ∙ ap length (filter_map-map from_input (λ d. d.0) es ∙ sym (filter_map-map (λ d. from_input d.from) channel_of es));
-  outputs = f ∙ ap length (filter_map-map to_output (λ d. d.1) es ∙ sym (filter_map-map (λ d. to_output d.to) channel_of es));
-}
+length-all : (cs : List Channel) → length (filter_map (λ c. Some c) cs) ≡ length cs
+length-all [] = refl
+length-all (c ∷ cs) = ap suc (length-all cs)
 
 -- behind a channel more
-pub more_counted : (cs ds : List Channel) (from : FromEnd) (to : ToEnd) (ins outs ins' outs' : ℕ) → ds ≡ cs ++ (record { from = from; to = to }) ∷ [] → ins' ≡ ins + ones (from_input from) → outs' ≡ outs + ones (to_output to)
-    → AreCounted cs ins outs → AreCounted ds ins' outs'
-more_counted cs ds from to ins outs ins' outs' e f g old = record {
-  inputs = f ∙ ap (λ n. n + ones (from_input from)) old.inputs ∙ sym (one_more (λ c. from_input c.from) cs ds (record { from = from; to = to }) e);
-  outputs = g ∙ ap (λ n. n + ones (to_output to)) old.outputs ∙ sym (one_more (λ c. to_output c.to) cs ds (record { from = from; to = to }) e);
+pub more_counted : (cs ds : List Channel) (c : Channel) (t u : Tally) → ds ≡ cs ++ c ∷ [] → u.channels ≡ t.channels + 1 → u.inputs ≡ t.inputs + ones (from_input c.from) → u.outputs ≡ t.outputs + ones (to_output c.to)
+    → AreCounted cs t → AreCounted ds u
+more_counted cs ds c t u e d f g old = record {
+  channels = d ∙ ap (λ n. n + 1) old.channels ∙ sym (ap length e ∙ length-append cs (c ∷ []));
+  inputs = f ∙ ap (λ n. n + ones (from_input c.from)) old.inputs ∙ sym (one_more (λ x. from_input x.from) cs ds c e);
+  outputs = g ∙ ap (λ n. n + ones (to_output c.to)) old.outputs ∙ sym (one_more (λ x. to_output x.to) cs ds c e);
 }
 
--- there is an input to be taken from the count, where a channel with one goes
-pub enough : (cs : List Channel) (k : ℕ) (c : Channel) (ins outs : ℕ) → slice_get cs k ≡ Some c → AreCounted cs ins outs → (ones (from_input c.from) ≤ ins) × (ones (to_output c.to) ≤ outs)
-enough cs k c ins outs there old =
-    let a = removed (λ x. from_input x.from) cs k c there in
-    let b = removed (λ x. to_output x.to) cs k c there in
+-- there is something to be taken from the counts, where a channel goes
+pub enough : (slots : List (Option Channel)) (k : ℕ) (c : Channel) (t : Tally) → slice_get slots k ≡ Some (Some c) → AreCounted (live slots) t
+    → (1 ≤ t.channels) × ((ones (from_input c.from) ≤ t.inputs) × (ones (to_output c.to) ≤ t.outputs))
+enough slots k c t at old =
+    let n = one_out (λ x. Some x) slots k c at ∙ length-all (live slots) in
+    let a = one_out (λ x. from_input x.from) slots k c at in
+    let b = one_out (λ x. to_output x.to) slots k c at in
+    let all = old.channels in
     let i = old.inputs in
     let o = old.outputs in
-    (omega (arith, a, i), omega (arith, b, o))
+    (omega (arith, n, all), (omega (arith, a, i), omega (arith, b, o)))
 
 -- behind a channel less
-pub less_counted : (cs ds : List Channel) (k : ℕ) (c : Channel) (ins outs ins' outs' : ℕ) → slice_get cs k ≡ Some c → ds ≡ remove cs k → ins' ≡ ins - ones (from_input c.from) → outs' ≡ outs - ones (to_output c.to)
-    → AreCounted cs ins outs → AreCounted ds ins' outs'
-less_counted cs ds k c ins outs ins' outs' there e f g old =
-    let a = one_less (λ x. from_input x.from) cs ds k c there e in
-    let b = one_less (λ x. to_output x.to) cs ds k c there e in
+pub less_counted : (slots : List (Option Channel)) (k : ℕ) (c : Channel) (t u : Tally) → slice_get slots k ≡ Some (Some c) → u.channels ≡ t.channels - 1 → u.inputs ≡ t.inputs - ones (from_input c.from)
+    → u.outputs ≡ t.outputs - ones (to_output c.to) → AreCounted (live slots) t → AreCounted (live (slice_set slots k None)) u
+less_counted slots k c t u at d f g old =
+    let n = one_out (λ x. Some x) slots k c at ∙ length-all (live slots) in
+    let m = length-all (live (slice_set slots k None)) in
+    let a = one_out (λ x. from_input x.from) slots k c at in
+    let b = one_out (λ x. to_output x.to) slots k c at in
+    let all = old.channels in
     let i = old.inputs in
     let o = old.outputs in
-    record { inputs = omega (arith, a, f, i); outputs = omega (arith, b, g, o) }
+    record { channels = omega (arith, n, m, d, all); inputs = omega (arith, a, f, i); outputs = omega (arith, b, g, o) }

@@ -1,4 +1,5 @@
 pub mod Once
+pub mod Found
 pub mod Frees
 pub mod Ended
 pub mod Named

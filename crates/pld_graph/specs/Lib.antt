@@ -3,5 +3,5 @@ pub mod Parts
 pub mod Design
 pub mod Edits
 pub mod Sound
-pub mod Joined
+pub mod Slots
 pub mod Masks

@@ -1,94 +1,47 @@
 //! Channels by each of their ends and in the order of their declaration.
 
-ghost use Rattle.std.specs.Prelude.{◌≡◌, ◌++◌, ◌∷◌, [], ◌<◌, ◌≤◌, ◌||◌, false, true, not, None, Some, IfSome, MatchResult, OnErr, OnOk, IsOk, filter, length, slice_get};
-ghost use Rattle.std.specs.List.{list_any, list_all, filter_map};
-ghost use Rattle.std.specs.Str.{bytes_eq};
-ghost use Rattle.indexmap.specs.IndexMap.{IsUnchanged, spare, keys, values};
-ghost use Rattle.pld_graph.specs.Parts.{same_end as same_end_of, is_lost as is_lost_of, is_of as is_of_operator, stands_at, is_host as is_host_of, is_cut as is_cut_of, passes, from_port, to_port, from_input, to_output, same_from, same_to};
+ghost use Rattle.std.specs.Prelude.{◌≡◌, ◌++◌, ◌∷◌, [], ◌<◌, ◌≤◌, false, true, not, None, Some, MatchResult, filter, length, slice_get, slice_set};
+ghost use Rattle.std.specs.List.{list_any, list_all};
+ghost use Rattle.pld_graph.specs.Parts.{same_end as same_end_of, is_lost as is_lost_of, is_of as is_of_operator, stands_at, is_host as is_host_of, is_cut as is_cut_of, from_input, to_output, same_from, same_to};
 ghost use Rattle.pld_graph.specs.Design.{is_linked as is_linked_of, inputs as inputs_of, outputs as outputs_of, is_input as is_input_of};
 ghost use Rattle.pld_graph.specs.Sound.{is_directed};
-ghost use Rattle.pld_graph.specs.Masks.{ones};
+ghost use Rattle.pld_graph.specs.Slots.{live};
+ghost use Rattle.pld_graph.specs.Masks.{ones, AreCounted};
 
+use crate::slots::Slots;
 use crate::{Channel, Cut, FromEnd, ToEnd, looks};
-use indexmap::IndexMap;
 use pld_base::{End, Name, NoMemory, Side};
 use std::alloc::Global;
 use std::marker::Model;
 
+/// How many channels, inputs and outputs stand.
+#[derive(Clone, Copy, Debug, PartialEq, Eq, Drop)]
+pub struct Tally {
+    pub channels: usize,
+    pub inputs: usize,
+    pub outputs: usize,
+}
+
 /// A list of channels in the order of their declaration, in which an end is found by its hash. Contracts see the list.
 #[derive(Drop)]
 pub struct Channels {
-    to_of: IndexMap<FromEnd, ToEnd>,
-    from_of: IndexMap<ToEnd, FromEnd>,
-    input_count: usize,
-    output_count: usize,
+    slots: Slots,
+    tally: Tally,
 }
 
 impl Model for Channels {
-    ghost use Rattle.std.specs.Prelude.{List};
+    ghost use Rattle.std.specs.Prelude.{◌≡◌, true, List};
+    ghost use Rattle.std.specs.List.{list_all};
     ghost use Rattle.pld_graph.specs.declared.parts.Channel.{Channel};
-    ghost use Rattle.pld_graph.specs.Joined.{joined, IsMirrored};
+    ghost use Rattle.pld_graph.specs.Sound.{is_directed};
+    ghost use Rattle.pld_graph.specs.Slots.{live};
     ghost use Rattle.pld_graph.specs.Masks.{AreCounted};
 
     ghost Value = { List Channel };
 
-    ghost view = { λ cs. joined cs.to_of.entries };
+    ghost view = { λ cs. live cs.slots };
 
-    ghost invariant = { λ cs. IsMirrored cs.to_of.entries cs.from_of.entries × AreCounted (joined cs.to_of.entries) cs.input_count cs.output_count };
-}
-
-// Whether a channel comes from this port.
-fn comes_from(to_of: &IndexMap<FromEnd, ToEnd>, end: &End) -> bool
-    ensures { result ≡ list_any (λ e. passes (same_end_of end.now) (from_port e.0)) to_of.now.entries }
-{
-    to_of.contains_key(&FromEnd::Port(*end))
-}
-
-// Whether a channel goes to this port.
-fn goes_to(from_of: &IndexMap<ToEnd, FromEnd>, end: &End) -> bool
-    ensures { result ≡ list_any (λ e. passes (same_end_of end.now) (to_port e.0)) from_of.now.entries }
-{
-    from_of.contains_key(&ToEnd::Port(*end))
-}
-
-// Whether a channel comes from the input of this name.
-fn has_input(to_of: &IndexMap<FromEnd, ToEnd>, name: &Name) -> bool
-    ensures { result ≡ list_any (λ e. passes (λ n. bytes_eq n name.now) (from_input e.0)) to_of.now.entries }
-{
-    to_of.contains_key(&FromEnd::Input(*name))
-}
-
-// Whether a channel goes to the output of this name.
-fn has_output(from_of: &IndexMap<ToEnd, FromEnd>, name: &Name) -> bool
-    ensures { result ≡ list_any (λ e. passes (λ n. bytes_eq n name.now) (to_output e.0)) from_of.now.entries }
-{
-    from_of.contains_key(&ToEnd::Output(*name))
-}
-
-fn some_lost(to_of: &IndexMap<FromEnd, ToEnd>, name: &Name, ins: u8, outs: u8) -> bool
-    ensures { result ≡ list_any (λ e. stands_at (is_lost_of name.now ins outs) (record { from = e.0; to = e.1 })) to_of.now.entries }
-{
-    to_of
-        .iter()
-        .any(|(from, to)| looks::loses(from, to, name, ins, outs))
-}
-
-fn input_of(from: &FromEnd) -> Option<Name>
-    ensures { result ≡ from_input from.now }
-{
-    match from {
-        FromEnd::Port(_) => None,
-        FromEnd::Input(name) => Some(*name),
-    }
-}
-
-fn output_of(to: &ToEnd) -> Option<Name>
-    ensures { result ≡ to_output to.now }
-{
-    match to {
-        ToEnd::Port(_) => None,
-        ToEnd::Output(name) => Some(*name),
-    }
+    ghost invariant = { λ cs. (list_all is_directed (live cs.slots) ≡ true) × AreCounted (live cs.slots) cs.tally };
 }
 
 // One for an input, none for a port.
@@ -113,28 +66,33 @@ fn one_output(to: &ToEnd) -> usize
     }
 }
 
-fn count_inputs(to_of: &IndexMap<FromEnd, ToEnd>) -> usize
-    ensures { result ≡ length (filter_map from_input (keys to_of.now)) }
+// Takes out what is in a slot.
+fn empty(slots: &mut Slots, tally: &mut Tally, i: usize)
+    requires within { i < length slots.old }
+    requires counted { AreCounted (live slots.old) tally.old }
+    ensures emptied { slots.new ≡ slice_set slots.old i None }
+    ensures counted { AreCounted (live slots.new) tally.new }
 {
-    to_of.keys().filter_map(|from| input_of(from)).count()
+    if let Some(gone) = slots.take(i) {
+        tally.channels -= 1;
+        tally.inputs -= one_input(&gone.from);
+        tally.outputs -= one_output(&gone.to);
+    }
 }
 
-fn count_outputs(to_of: &IndexMap<FromEnd, ToEnd>) -> usize
-    ensures { result ≡ length (filter_map to_output (values to_of.now)) }
+// Takes out the channels at the ports of an operator.
+fn empty_of(slots: &mut Slots, tally: &mut Tally, name: &Name)
+    requires { AreCounted (live slots.old) tally.old }
+    ensures left { live slots.new ≡ filter (λ c. not (stands_at (is_of_operator name.now) c)) (live slots.old) }
+    ensures counted { AreCounted (live slots.new) tally.new }
 {
-    to_of.values().filter_map(|to| output_of(to)).count()
-}
-
-fn nth_input(to_of: &IndexMap<FromEnd, ToEnd>, k: usize) -> Option<Name>
-    ensures { result ≡ slice_get (filter_map from_input (keys to_of.now)) k }
-{
-    to_of.keys().filter_map(|from| input_of(from)).nth(k)
-}
-
-fn nth_output(to_of: &IndexMap<FromEnd, ToEnd>, k: usize) -> Option<Name>
-    ensures { result ≡ slice_get (filter_map to_output (values to_of.now)) k }
-{
-    to_of.values().filter_map(|to| output_of(to)).nth(k)
+    for i in 0..slots.len() {
+        if let Some(channel) = slots.at(i) {
+            if looks::is_of(&channel.from, &channel.to, name) {
+                empty(slots, tally, i);
+            }
+        }
+    }
 }
 
 impl Channels {
@@ -142,10 +100,12 @@ impl Channels {
         ensures { result ≡ [] }
     {
         Channels {
-            to_of: IndexMap::new(alloc),
-            from_of: IndexMap::new(alloc),
-            input_count: 0,
-            output_count: 0,
+            slots: Slots::new(alloc),
+            tally: Tally {
+                channels: 0,
+                inputs: 0,
+                outputs: 0,
+            },
         }
     }
 
@@ -153,7 +113,7 @@ impl Channels {
     pub fn len(&self) -> usize
         ensures { result ≡ length self.now }
     {
-        self.to_of.len()
+        self.tally.channels
     }
 
     /// The channel at a place.
@@ -161,11 +121,7 @@ impl Channels {
         requires { k < length self.now }
         ensures { slice_get self.now k ≡ Some result }
     {
-        let (from, to) = self.to_of.get_index(k).unwrap();
-        Channel {
-            from: *from,
-            to: *to,
-        }
+        self.slots.nth(k).unwrap()
     }
 
     /// Whether a channel stands at the port.
@@ -173,8 +129,8 @@ impl Channels {
         ensures { result ≡ is_linked_of self.now end.now }
     {
         match end.side {
-            Side::Out => comes_from(&self.to_of, end),
-            Side::In => goes_to(&self.from_of, end),
+            Side::Out => self.slots.from_slot(&FromEnd::Port(*end)).is_some(),
+            Side::In => self.slots.to_slot(&ToEnd::Port(*end)).is_some(),
         }
     }
 
@@ -182,49 +138,49 @@ impl Channels {
     pub fn has_host(&self, name: &Name) -> bool
         ensures { result ≡ list_any (is_host_of name.now) self.now }
     {
-        has_input(&self.to_of, name) || has_output(&self.from_of, name)
+        self.is_input(name) || self.slots.to_slot(&ToEnd::Output(*name)).is_some()
     }
 
     /// Whether an input has this name.
     pub fn is_input(&self, name: &Name) -> bool
         ensures { result ≡ is_input_of name.now self.now }
     {
-        has_input(&self.to_of, name)
+        self.slots.from_slot(&FromEnd::Input(*name)).is_some()
     }
 
     /// Whether a channel stands at a port of this operator that these counts lack.
     pub fn some_lost(&self, name: &Name, ins: u8, outs: u8) -> bool
         ensures { result ≡ list_any (stands_at (is_lost_of name.now ins outs)) self.now }
     {
-        some_lost(&self.to_of, name, ins, outs)
+        self.slots.some_lost(name, ins, outs)
     }
 
     /// How many inputs there are.
     pub fn inputs(&self) -> usize
         ensures { result ≡ length (inputs_of self.now) }
     {
-        self.input_count
+        self.tally.inputs
     }
 
     /// How many outputs there are.
     pub fn outputs(&self) -> usize
         ensures { result ≡ length (outputs_of self.now) }
     {
-        self.output_count
+        self.tally.outputs
     }
 
     /// The name of the k-th input.
     pub fn input_at(&self, k: usize) -> Option<Name>
         ensures { result ≡ slice_get (inputs_of self.now) k }
     {
-        nth_input(&self.to_of, k)
+        self.slots.nth_input(k)
     }
 
     /// The name of the k-th output.
     pub fn output_at(&self, k: usize) -> Option<Name>
         ensures { result ≡ slice_get (outputs_of self.now) k }
     {
-        nth_output(&self.to_of, k)
+        self.slots.nth_output(k)
     }
 
     /// A channel, last in the order of declaration.
@@ -236,11 +192,10 @@ impl Channels {
         requires few_outputs { length (outputs_of self.old) ≤ 8 }
         ensures { MatchResult result (λ _done. self.new ≡ self.old ++ (record { from = from.now; to = to.now }) ∷ []) (λ _e. self.new ≡ self.old) }
     {
-        self.from_of.reserve(1)?;
-        self.to_of.insert(*from, *to)?;
-        self.from_of.insert(*to, *from).unwrap();
-        self.input_count += one_input(from);
-        self.output_count += one_output(to);
+        self.slots.push(from, to)?;
+        self.tally.channels += 1;
+        self.tally.inputs += one_input(from);
+        self.tally.outputs += one_output(to);
         Ok(())
     }
 
@@ -248,45 +203,26 @@ impl Channels {
     pub fn drop_of(&mut self, name: &Name)
         ensures { self.new ≡ filter (λ c. not (stands_at (is_of_operator name.now) c)) self.old }
     {
-        self.to_of.retain(
-            |from: &FromEnd, to: &mut ToEnd| -> bool
-                ensures { (result ≡ not (stands_at (is_of_operator name.entry.now) (record { from = from.now; to = to.old }))) × (to.new ≡ to.old) }
-            { !looks::is_of(from, to, name) },
-        );
-        self.from_of.retain(
-            |to: &ToEnd, from: &mut FromEnd| -> bool
-                ensures { (result ≡ not (stands_at (is_of_operator name.entry.now) (record { from = from.old; to = to.now }))) × (from.new ≡ from.old) }
-            { !looks::is_of(from, to, name) },
-        );
-        self.input_count = count_inputs(&self.to_of);
-        self.output_count = count_outputs(&self.to_of);
+        empty_of(&mut self.slots, &mut self.tally, name);
     }
 
-    // Removes the channel with this producing end, if there is one. Those behind it close up.
+    // Removes the channel with this producing end, if there is one.
     fn drop_from(&mut self, from: &FromEnd)
         ensures removed { self.new ≡ filter (λ c. not (same_from from.now c.from)) self.old }
         ensures sides { list_all is_directed self.old ≡ true }
     {
-        if let Some(k) = self.to_of.get_index_of(from) {
-            let gone = self.at(k);
-            self.to_of.shift_remove_index(k);
-            self.from_of.shift_remove_index(k);
-            self.input_count -= one_input(&gone.from);
-            self.output_count -= one_output(&gone.to);
+        if let Some(i) = self.slots.from_slot(from) {
+            empty(&mut self.slots, &mut self.tally, i);
         }
     }
 
-    // Removes the channel with this consuming end, if there is one. Those behind it close up.
+    // Removes the channel with this consuming end, if there is one.
     fn drop_to(&mut self, to: &ToEnd)
         ensures removed { self.new ≡ filter (λ c. not (same_to to.now c.to)) self.old }
         ensures sides { list_all is_directed self.old ≡ true }
     {
-        if let Some(k) = self.from_of.get_index_of(to) {
-            let gone = self.at(k);
-            self.to_of.shift_remove_index(k);
-            self.from_of.shift_remove_index(k);
-            self.input_count -= one_input(&gone.from);
-            self.output_count -= one_output(&gone.to);
+        if let Some(i) = self.slots.to_slot(to) {
+            empty(&mut self.slots, &mut self.tally, i);
         }
     }
 

@@ -6,6 +6,7 @@ mod graph;
 mod looks;
 mod operators;
 mod parts;
+mod slots;
 
 pub use graph::Graph;
 pub use parts::{Channel, Cut, FromEnd, GraphFault, OpenPort, OperatorEntry, ToEnd};

@@ -1,8 +1,0 @@
-use Rattle.std.proofs.Common.{◌∙◌}
-use Rattle.pld_graph.specs.declared.parts.ToEnd.TheVariants as to_end
-use Rattle.pld_graph.specs.Parts.{same_to}
-use Rattle.pld_graph.proofs.Ended.{there, to_is}
-use Rattle.pld_graph.proofs.channels.has_output.Goals as goal
-
-pub returns : goal.returns
-returns c = c.contains_key.ensures ∙ there _ (same_to (to_end.Output c.args.name.now)) (to_is (to_end.Output c.args.name.now)) c.args.from_of.now.entries
