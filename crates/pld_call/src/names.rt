@@ -20,26 +20,23 @@ pub struct Scope<'a> {
 }
 
 // The name with this text, which is an identifier.
-fn name_of(text: &[u8], otherwise: Name) -> Name
+fn name_of(text: &[u8]) -> Name
     requires { name_in text.now ≡ Some text.now }
     ensures { result ≡ text.now }
 {
-    match Name::of(text) {
-        Some(name) => name,
-        None => otherwise,
-    }
+    Name::of(text).unwrap()
 }
 
 /// A letter and a number, which is 99 at most.
-pub fn numbered(letter: u8, number: usize, otherwise: Name) -> Name
+pub fn numbered(letter: u8, number: usize) -> Name
     requires { is_letter letter ≡ true }
     ensures { result ≡ numbered_of letter number }
 {
     let n = if number < 99 { number as u8 } else { 99 };
     if n < 10 {
-        name_of(&[letter, 48 + n], otherwise)
+        name_of(&[letter, b'0' + n])
     } else {
-        name_of(&[letter, 48 + n / 10, 48 + n % 10], otherwise)
+        name_of(&[letter, b'0' + n / 10, b'0' + n % 10])
     }
 }
 
@@ -61,7 +58,7 @@ pub fn scalar_used(scope: &Scope, u: &Used) -> Used
 {
     let number = scope.first.saturating_add(scalar_number(scope, &u.name));
     Used {
-        name: numbered(b's', number, u.name),
+        name: numbered(b's', number),
         at: u.at,
     }
 }
@@ -71,7 +68,7 @@ pub fn array_used(scope: &Scope, u: &Used) -> Used
     ensures { result ≡ called_so (array_name (array_no (names_at scope.now) u.now.name)) u.now }
 {
     Used {
-        name: numbered(b't', place_of(scope.arrays, &u.name), u.name),
+        name: numbered(b't', place_of(scope.arrays, &u.name)),
         at: u.at,
     }
 }
@@ -81,7 +78,7 @@ pub fn in_used(scope: &Scope, u: &Used) -> Used
     ensures { result ≡ called_so (in_name (place_in (names_at scope.now).ins u.now.name)) u.now }
 {
     Used {
-        name: numbered(b'i', port_place(scope.ports, Side::In, &u.name), u.name),
+        name: numbered(b'i', port_place(scope.ports, Side::In, &u.name)),
         at: u.at,
     }
 }
@@ -91,7 +88,7 @@ pub fn out_used(scope: &Scope, u: &Used) -> Used
     ensures { result ≡ called_so (out_name (place_in (names_at scope.now).outs u.now.name)) u.now }
 {
     Used {
-        name: numbered(b'o', port_place(scope.ports, Side::Out, &u.name), u.name),
+        name: numbered(b'o', port_place(scope.ports, Side::Out, &u.name)),
         at: u.at,
     }
 }
