@@ -9,8 +9,8 @@ use crate::tree::{Expr, Operator, Stmt, Target};
 // Nodes are counted no further than this.
 const MANY: u32 = 1001;
 
-// a + b, counted no further than 1001.
-fn added(a: u32, b: u32) -> u32
+/// Two counts of nodes together, and 1001 where that is more.
+pub fn added(a: u32, b: u32) -> u32
     ensures { result ≡ min (a + b) 1001 }
 {
     if a < MANY && b < MANY - a {
@@ -20,8 +20,8 @@ fn added(a: u32, b: u32) -> u32
     }
 }
 
-// The number of nodes of a value.
-fn value_nodes(e: &Expr) -> u32
+/// The number of nodes of a value, and 1001 where it has more.
+pub fn value_nodes(e: &Expr) -> u32
     ensures { (d : Names) → result ≡ min (nodes_of_value (value_in d e.now)) 1001 }
 {
     match e {
@@ -34,8 +34,8 @@ fn value_nodes(e: &Expr) -> u32
     }
 }
 
-// The number of nodes of a target's index.
-fn target_nodes(t: &Target) -> u32
+/// The number of nodes of a target, which are those of its index, and 1001 where it has more.
+pub fn target_nodes(t: &Target) -> u32
     ensures { (d : Names) → result ≡ min (nodes_of_target d t.now) 1001 }
 {
     match t {
