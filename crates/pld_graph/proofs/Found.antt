@@ -175,6 +175,7 @@ module _ {K : Type 0} (same : K → K → Bool) (laws : IsEquivalence same) (key
         apart q i d n e here s =
             let one : d ≡ c = same_Some d c (same_Some (Some d) (Some c) (sym here ∙ ap (slice_get slots) (sym e) ∙ at)) in
             true≢false (sym (laws.symm (key c) q ∙ ap (λ x. same q (key x)) (sym one) ∙ s) ∙ n)
+
         listed : (i : ℕ) (d : Channel) → slice_get (slice_set slots k None) i ≡ Some (Some d) → (k ≡ i → ⊥) → lookup (same (key d)) es' ≡ Some i
         listed i d h other =
             let here = sym (set_apart slots k i None other) ∙ h in

@@ -42,7 +42,12 @@ fn input_in(slot: &Option<Channel>) -> Option<Name>
     ensures { result ≡ in_slot (λ c. from_input c.from) slot.now }
 {
     match slot {
-        Some(Channel { from: FromEnd::Input(name), .. }) => Some(*name),
+        Some(
+            Channel {
+                from: FromEnd::Input(name),
+                ..
+            },
+        ) => Some(*name),
         _ => None,
     }
 }
@@ -52,7 +57,12 @@ fn output_in(slot: &Option<Channel>) -> Option<Name>
     ensures { result ≡ in_slot (λ c. to_output c.to) slot.now }
 {
     match slot {
-        Some(Channel { to: ToEnd::Output(name), .. }) => Some(*name),
+        Some(
+            Channel {
+                to: ToEnd::Output(name),
+                ..
+            },
+        ) => Some(*name),
         _ => None,
     }
 }
@@ -122,14 +132,20 @@ impl Slots {
     pub fn nth_input(&self, k: usize) -> Option<Name>
         ensures { result ≡ slice_get (inputs_of (live self.now)) k }
     {
-        self.channels.iter().filter_map(|slot| input_in(slot)).nth(k)
+        self.channels
+            .iter()
+            .filter_map(|slot| input_in(slot))
+            .nth(k)
     }
 
     /// The name of the k-th output.
     pub fn nth_output(&self, k: usize) -> Option<Name>
         ensures { result ≡ slice_get (outputs_of (live self.now)) k }
     {
-        self.channels.iter().filter_map(|slot| output_in(slot)).nth(k)
+        self.channels
+            .iter()
+            .filter_map(|slot| output_in(slot))
+            .nth(k)
     }
 
     /// Whether a channel stands at a port of this operator that these counts lack.
@@ -166,12 +182,10 @@ impl Slots {
         self.from_at.insert(*from, i)?;
         self.to_at.insert(*to, i).unwrap();
         self.channels
-            .push(
-                Some(Channel {
-                    from: *from,
-                    to: *to,
-                }),
-            )
+            .push(Some(Channel {
+                from: *from,
+                to: *to,
+            }))
             .unwrap();
         Ok(())
     }

@@ -33,10 +33,19 @@ loop-i-preserved c =
     let p = stands_at (is_of c.args.name.now) in
     let t = c.loop-i.slots in
     elim c.match-at.branch [
-      in-Some+then-is_of w ↦ (clear_step p c.args.slots.now t c.match-at.slots c.loop-i.i (Some w.in-Some.channel) c.loop-i.invariant.0 (c.at.ensures ∙ ap Some w.in-Some.is)
-          (w.slots-is ∙ w.empty.ensures.emptied ∙ ap (λ b. slice_set t c.loop-i.i (cond b None (Some w.in-Some.channel))) (sym w.if-is_of.true ∙ w.is_of.ensures)), search rules)
-    | in-Some+else-is_of w ↦ (clear_step p c.args.slots.now t c.match-at.slots c.loop-i.i (Some w.in-Some.channel) c.loop-i.invariant.0 (c.at.ensures ∙ ap Some w.in-Some.is)
-          (w.slots-is ∙ sym (set_same t c.loop-i.i (Some w.in-Some.channel) (c.at.ensures ∙ ap Some w.in-Some.is)) ∙ ap (λ b. slice_set t c.loop-i.i (cond b None (Some w.in-Some.channel))) (sym w.if-is_of.false ∙ w.is_of.ensures)), search rules)
-    | in_default w ↦ (clear_step p c.args.slots.now t c.match-at.slots c.loop-i.i None c.loop-i.invariant.0 (c.at.ensures ∙ ap Some w.in_default.is)
-          (w.slots-is ∙ sym (set_same t c.loop-i.i None (c.at.ensures ∙ ap Some w.in_default.is))), search rules)
+      | in-Some+then-is_of w ↦ (
+        clear_step p c.args.slots.now t c.match-at.slots c.loop-i.i (Some w.in-Some.channel) c.loop-i.invariant.0 (c.at.ensures ∙ ap Some w.in-Some.is)
+            (w.slots-is ∙ w.empty.ensures.emptied ∙ ap (λ b. slice_set t c.loop-i.i (cond b None (Some w.in-Some.channel))) (sym w.if-is_of.true ∙ w.is_of.ensures)),
+        search rules,
+      )
+      | in-Some+else-is_of w ↦ (
+        clear_step p c.args.slots.now t c.match-at.slots c.loop-i.i (Some w.in-Some.channel) c.loop-i.invariant.0 (c.at.ensures ∙ ap Some w.in-Some.is)
+            (w.slots-is ∙ sym (set_same t c.loop-i.i (Some w.in-Some.channel) (c.at.ensures ∙ ap Some w.in-Some.is)) ∙ ap (λ b. slice_set t c.loop-i.i (cond b None (Some w.in-Some.channel))) (sym w.if-is_of.false ∙ w.is_of.ensures)),
+        search rules,
+      )
+      | in_default w ↦ (
+        clear_step p c.args.slots.now t c.match-at.slots c.loop-i.i None c.loop-i.invariant.0 (c.at.ensures ∙ ap Some w.in_default.is)
+            (w.slots-is ∙ sym (set_same t c.loop-i.i None (c.at.ensures ∙ ap Some w.in_default.is))),
+        search rules,
+      )
     ]

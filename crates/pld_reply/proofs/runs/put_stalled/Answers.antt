@@ -11,5 +11,14 @@ returns-in_err-put_port-clause-full c =
     let piece : at_line c.index-names-k.result c.blocked.result ≡ line c.loop-k.k = ap (λ n. at_line n c.blocked.result) (name_found c.args.names.now c.loop-k.k c.index-names-k.result (omega (arith, c.loop-k-test.true)) c.index-names-k.is) ∙ ap (at_line (name_in c.args.names.now c.loop-k.k)) c.blocked.ensures in
     let grown = ap length c.loop-k.invariant.0 in
     on_err c.from_residual.result
-    (omega (arith, c.in_err-put_port.ensures.full, c.loop-k.invariant.1, grown, ap length piece, length-append c.args.reply.now.items (lines_below line c.loop-k.k), c.loop-k.reply.ok.0, c.args.reply.now.ok.0,
-    lines_grow line c.loop-k.k (length c.args.names.now) (omega (arith, c.loop-k-test.true))))
+    (omega (
+      arith,
+      c.in_err-put_port.ensures.full,
+      c.loop-k.invariant.1,
+      grown,
+      ap length piece,
+      length-append c.args.reply.now.items (lines_below line c.loop-k.k),
+      c.loop-k.reply.ok.0,
+      c.args.reply.now.ok.0,
+      lines_grow line c.loop-k.k (length c.args.names.now) (omega (arith, c.loop-k-test.true)),
+    ))

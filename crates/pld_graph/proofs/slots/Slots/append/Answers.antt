@@ -22,12 +22,13 @@ invariant_of-self-2 c =
     let es = c.self.inside.from_at.entries in
     let fs = c.self.inside.to_at.entries in
     let kept : c.reserve-2.new.self.entries ≡ fs = c.reserve-2.ensures.entries in
-    let put = subst (λ r. OnOk r ((q : ToEnd) → lookup (to_test.it q) c.insert-2.new.self.entries ≡ cond (to_test.it d.to q) (Some c.len-i.result) (lookup (to_test.it q) c.reserve-2.new.self.entries))) c.unwrap.ensures (search rules) in
-    (subst (λ l. IsFound same_from (λ x. x.from) l c.insert.new.self.entries) (sym items)
-    (found_more same_from from_same (λ x. x.from) slots es c.self.invariant.0 d _ (subst (λ s. list_any (λ x. same_from d.from x.from) (live s) ≡ false) (sym c.self.view_is) c.requires.from_free)
-    (subst (λ (t : FromEnd → FromEnd → Bool). (q : FromEnd) → lookup (t q) c.insert.new.self.entries ≡ cond (t d.from q) (Some (length slots)) (lookup (t q) es)) (λ i a b. from_is a b i)
-    (λ q. c.in_ok-insert.ensures.updates.0 q ∙ (λ i. cond (from_test.it d.from q) (Some (n i)) (lookup (from_test.it q) es))))),
-    subst (λ l. IsFound same_to (λ x. x.to) l c.insert-2.new.self.entries) (sym items)
-    (found_more same_to to_same (λ x. x.to) slots fs c.self.invariant.1 d _ (subst (λ s. list_any (λ x. same_to d.to x.to) (live s) ≡ false) (sym c.self.view_is) c.requires.to_free)
-    (subst (λ (t : ToEnd → ToEnd → Bool). (q : ToEnd) → lookup (t q) c.insert-2.new.self.entries ≡ cond (t d.to q) (Some (length slots)) (lookup (t q) fs)) (λ i a b. to_is a b i)
-    (λ q. put q ∙ (λ i. cond (to_test.it d.to q) (Some (n i)) (lookup (to_test.it q) (kept i)))))))
+    let put = subst (λ r. OnOk r ((q : ToEnd) → lookup (to_test.it q) c.insert-2.new.self.entries ≡ cond (to_test.it d.to q) (Some c.len-i.result) (lookup (to_test.it q) c.reserve-2.new.self.entries))) c.unwrap.ensures (search rules) in (
+      subst (λ l. IsFound same_from (λ x. x.from) l c.insert.new.self.entries) (sym items)
+          (found_more same_from from_same (λ x. x.from) slots es c.self.invariant.0 d _ (subst (λ s. list_any (λ x. same_from d.from x.from) (live s) ≡ false) (sym c.self.view_is) c.requires.from_free)
+          (subst (λ (t : FromEnd → FromEnd → Bool). (q : FromEnd) → lookup (t q) c.insert.new.self.entries ≡ cond (t d.from q) (Some (length slots)) (lookup (t q) es)) (λ i a b. from_is a b i)
+          (λ q. c.in_ok-insert.ensures.updates.0 q ∙ (λ i. cond (from_test.it d.from q) (Some (n i)) (lookup (from_test.it q) es))))),
+      subst (λ l. IsFound same_to (λ x. x.to) l c.insert-2.new.self.entries) (sym items)
+          (found_more same_to to_same (λ x. x.to) slots fs c.self.invariant.1 d _ (subst (λ s. list_any (λ x. same_to d.to x.to) (live s) ≡ false) (sym c.self.view_is) c.requires.to_free)
+          (subst (λ (t : ToEnd → ToEnd → Bool). (q : ToEnd) → lookup (t q) c.insert-2.new.self.entries ≡ cond (t d.to q) (Some (length slots)) (lookup (t q) fs)) (λ i a b. to_is a b i)
+          (λ q. put q ∙ (λ i. cond (to_test.it d.to q) (Some (n i)) (lookup (to_test.it q) (kept i)))))),
+    )

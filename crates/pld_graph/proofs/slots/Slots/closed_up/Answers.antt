@@ -38,8 +38,8 @@ loop-i-preserved c =
     let n = c.len-i-end.ensures in
     let at : slice_get c.args.self.now c.loop-i.i ≡ Some c.index.result.now = ap (λ s. slice_get s c.loop-i.i) (sym c.self.view_is) ∙ slice_get_read c.self.inside.channels.items _ c.loop-i.i c.index.result.now refl (omega (arith, below, n)) c.index.ensures in
     elim c.match-index.branch [
-      in-Some+in_ok-append w ↦ live_more c.args.self.now c.loop-i.slots c.match-index.slots c.loop-i.i (Some w.in-Some.channel) (at ∙ ap Some w.in-Some.is) c.loop-i.invariant
+      | in-Some+in_ok-append w ↦ live_more c.args.self.now c.loop-i.slots c.match-index.slots c.loop-i.i (Some w.in-Some.channel) (at ∙ ap Some w.in-Some.is) c.loop-i.invariant
           (ap live (w.slots-is ∙ w.in_ok-append.ensures) ∙ filter_map-append (λ s. s) c.loop-i.slots (Some w.in-Some.channel ∷ []))
-    | in_default w ↦ live_more c.args.self.now c.loop-i.slots c.match-index.slots c.loop-i.i None (at ∙ ap Some w.in_default.is) c.loop-i.invariant
+      | in_default w ↦ live_more c.args.self.now c.loop-i.slots c.match-index.slots c.loop-i.i None (at ∙ ap Some w.in_default.is) c.loop-i.invariant
           (ap live w.slots-is ∙ sym (append-nil (live c.loop-i.slots)))
     ]

@@ -15,11 +15,12 @@ there c = slice_get_read c.self.inside.channels.items _ c.args.i c.index.result.
 pub invariant_of-self : goal.invariant_of-self
 invariant_of-self c =
     let es = c.self.inside.from_at.entries in
-    let fs = c.self.inside.to_at.entries in
-    (found_less same_from from_same (λ d. d.from) c.self.inside.channels.items es c.self.invariant.0 c.args.i c.in_ok-gone.gone _ (there c)
-    (subst (λ (t : FromEnd → FromEnd → Bool). (q : FromEnd) → lookup (t q) c.swap_remove.new.self.entries ≡ cond (t c.in_ok-gone.gone.from q) None (lookup (t q) es)) (λ i a b. from_is a b i) c.swap_remove.ensures.updates.0),
-    found_less same_to to_same (λ d. d.to) c.self.inside.channels.items fs c.self.invariant.1 c.args.i c.in_ok-gone.gone _ (there c)
-    (subst (λ (t : ToEnd → ToEnd → Bool). (q : ToEnd) → lookup (t q) c.swap_remove-2.new.self.entries ≡ cond (t c.in_ok-gone.gone.to q) None (lookup (t q) fs)) (λ i a b. to_is a b i) c.swap_remove-2.ensures.updates.0))
+    let fs = c.self.inside.to_at.entries in (
+      found_less same_from from_same (λ d. d.from) c.self.inside.channels.items es c.self.invariant.0 c.args.i c.in_ok-gone.gone _ (there c)
+          (subst (λ (t : FromEnd → FromEnd → Bool). (q : FromEnd) → lookup (t q) c.swap_remove.new.self.entries ≡ cond (t c.in_ok-gone.gone.from q) None (lookup (t q) es)) (λ i a b. from_is a b i) c.swap_remove.ensures.updates.0),
+      found_less same_to to_same (λ d. d.to) c.self.inside.channels.items fs c.self.invariant.1 c.args.i c.in_ok-gone.gone _ (there c)
+          (subst (λ (t : ToEnd → ToEnd → Bool). (q : ToEnd) → lookup (t q) c.swap_remove-2.new.self.entries ≡ cond (t c.in_ok-gone.gone.to q) None (lookup (t q) fs)) (λ i a b. to_is a b i) c.swap_remove-2.ensures.updates.0),
+    )
 
 pub returns-clause-taken : goal.returns-clause-taken
 returns-clause-taken c = ap (λ s. slice_get s c.args.i) (sym c.self.view_is) ∙ there c
