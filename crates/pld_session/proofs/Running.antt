@@ -10,7 +10,7 @@ use Rattle.std.proofs.lemmas.Option.{none-some, same_Some}
 use Rattle.net_switch.specs.declared.packet.Row.{Row}
 use Rattle.pld_base.specs.Words.{IsWord}
 use Rattle.pld_base.specs.Machine.{machine}
-use Rattle.pld_base.specs.Process.{IsProcess, WritesWords, idle}
+use Rattle.pld_base.specs.Process.{Process, IsProcess, WritesWords, idle}
 use Rattle.pld_kahn.specs.Realises.{Realises}
 use Rattle.pld_ast.specs.Resolve.{program_of}
 use Rattle.pld_ast.specs.Sound.{IsSound}
@@ -35,7 +35,8 @@ use Rattle.fabric_run.specs.Trees.{tree_setup}
 use Rattle.fabric_core.specs.Runs.{RunValue, setup_for, state_of}
 use Rattle.fabric_core.specs.declared.counts.Counts.{Counts}
 use Rattle.fabric_core.specs.declared.fabric.Record.{Record}
-use Rattle.fabric_plan.specs.Plans.{Given}
+use Rattle.fabric_ends.specs.Planned.{IsDesign}
+use Rattle.fabric_plan.specs.Plans.{Given, plan_of}
 use Rattle.fabric_plan.specs.Runnable.{IsRunnable, ArePlaced, HaveImages, AreFed, KeepMeaning}
 use Rattle.fabric_plan.specs.Standing.{AreStanding, standing_rows}
 use Rattle.pld_driver.specs.Walk.{Step, Says, Runs}
@@ -283,7 +284,7 @@ took order st number run old new reply next built few fit records permits said s
 pub fits_made : (order : Order) (st : State) (plan : PlanValue) (old new : List Record) (names outs : List (List ℕ)) (said : List ℕ) (left : List (Option Row)) (counts : Counts)
     → CanRun st plan → (made : IsMade order plan old new names outs said left counts) → FitsRun order st made.run
 fits_made order st plan old new names outs said left counts can made = record {
-  plan = made.plan ∙ can.plan;
+  plan = made.planned ∙ can.planned;
   runnable = can.runnable;
   means = can.means;
   legal = made.legal;
@@ -300,4 +301,14 @@ said_made order st plan old new names outs said left counts made n o =
 
 -- what holds of a state holds of those that hold the same of a run
 pub can_hold : (st : State) (plan : PlanValue) → CanRun (holding st.rounds st.draft st.standing) plan → CanRun st plan
-can_hold st plan can = record { plan = can.plan; runnable = can.runnable; means = can.means }
+can_hold st plan can = record { planned = can.planned; runnable = can.runnable; means = can.means }
+
+-- the plan is one for the design of what its operators mean
+pub run_design : (st : State) (plan : PlanValue) → ((d : Design) (given : Given) (operators : List Process) → IsRunnable d given → KeepMeaning given.images operators → IsDesign (plan_of d given) operators)
+    → CanRun st plan → IsDesign plan (meanings st.draft)
+run_design st plan designs can = subst (λ (p : PlanValue). IsDesign p (meanings st.draft)) (sym can.planned) (designs st.draft.design (given_in st) (meanings st.draft) can.runnable can.means)
+
+-- it has a page for each operator
+pub run_pages : (st : State) (plan : PlanValue) → ((d : Design) (given : Given) (operators : List Process) → IsRunnable d given → KeepMeaning given.images operators → IsDesign (plan_of d given) operators)
+    → CanRun st plan → length plan.pages ≡ length st.draft.design.operators
+run_pages st plan designs can = sym (run_design st plan designs can).as_many ∙ can.means.many ∙ can.runnable.images.many

@@ -77,7 +77,7 @@ pub record FitsRun (order : Order) (st : State) (run : Record) : Type 0 where
 -- A run with this plan can be made from the session's state: it is the plan of the design as it stands, which can be run and whose images do
 -- what its operators mean.
 pub record CanRun (st : State) (plan : PlanValue) : Type 0 where
-  pub plan : plan ≡ plan_in st
+  pub planned : plan ≡ plan_in st
   pub runnable : IsRunnable st.draft.design (given_in st)
   pub means : KeepMeaning (images st.draft) (meanings st.draft)
 
@@ -85,14 +85,14 @@ pub record CanRun (st : State) (plan : PlanValue) : Type 0 where
 -- its reply, for these names of operators and outputs, these are the rows that it leaves, and so it has counted.
 pub record IsMade (order : Order) (plan : PlanValue) (old new : List Record) (names outs : List (List ℕ)) (said : List ℕ) (left : List (Option Row)) (counts : Counts) : Type 0 where
   pub run : Record
-  pub plan : run.plan ≡ plan
+  pub planned : run.plan ≡ plan
   pub legal : IsLegal (tree_setup run.plan) run.journal
   pub over : IsSome (outcome (tree_setup run.plan) (end_of run))
   pub ordered : IsOrdered order run.plan run.journal
   pub last : new ≡ old ++ run ∷ []
   pub says : said ≡ reply (name_in names) (name_in outs) (length run.plan.pages) run.plan.outs (shown_by run)
   pub rows : left ≡ standing_rows (tree_setup run.plan) (end_of run)
-  pub counts : counts ≡ counts_of run
+  pub counted : counts ≡ counts_of run
 
 -- a state that holds this, of which it is asked what its runs are
 abbrev pub holding : ℕ → DraftState → List (Option Row) → State

@@ -182,7 +182,9 @@ impl Names {
 fn are_short(names: &[Name])
     ensures { AreShort (name_in names.now) }
 {
-    let _ = names;
+    for name in names {
+        let _most = name.len();
+    }
 }
 
 /// Room for the reply to a run: how it ended, a line for each operator and one for each output, which has at most a word a round.

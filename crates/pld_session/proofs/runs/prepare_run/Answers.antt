@@ -42,5 +42,5 @@ returns c =
     let planned : c.in_ok-plan.plan ≡ plan_in st = c.in_ok-plan.ensures ∙ ap (λ g. plan_of g given) c.graph-graph.ensures ∙ ap (plan_of d.design) (sym same) in
     if_ok c.prepare.result (λ fabric e. (
       ap (λ (r : RunValue). r.journal) e,
-      record { plan = ap (λ (r : RunValue). r.plan) e ∙ planned; runnable = c.built_designs_run.ensures.runnable; means = c.built_designs_run.ensures.means },
+      record { planned = ap (λ (r : RunValue). r.plan) e ∙ planned; runnable = c.built_designs_run.ensures.runnable; means = c.built_designs_run.ensures.means },
     )) c.prepare.ensures
