@@ -36,23 +36,21 @@ def operators(body):
     return b"".join(texts)
 
 
-def comments():
-    texts = []
-    for k in range(63):
-        start = b"void f(in a, out b) { uint32_t x; x = read(a); write(b, x); }\n"
-        line = b"// a comment that says nothing at all\n"
-        texts.append(b"op f%02d soft\n" % k + start + line * ((65_535 - len(start)) // len(line)) + b"\nend\n")
-    return b"".join(texts)
+def replaced(length):
+    """An operator that is replaced, again and again, by one with as many nodes as an operator may have."""
+    text = b"uint32_t x; x = read(a);" + b"x=x+1;" * 240 + b"write(b, x);"
+    block = b"replace w soft\nvoid w(in a, out b) { " + text + b" }\nend\n"
+    return padded(COPY + block * ((length - len(COPY)) // len(block)), length)
 
 
-def channels():
-    """63 operators in a ring that never comes to rest, 252 channels between them, a build, and 64 runs."""
+def channels(ports):
+    """63 operators in a ring that never comes to rest, so many channels from each to the next, a build, and 64 runs."""
     text = b""
     for k in range(63):
-        ins = b", ".join(b"in a%d" % p for p in range(4))
-        outs = b", ".join(b"out b%d" % p for p in range(4))
+        ins = b", ".join(b"in a%d" % p for p in range(ports))
+        outs = b", ".join(b"out b%d" % p for p in range(ports))
         text += b"op f%02d soft\nvoid f(%s, %s) { uint32_t x; while (1) { write(b0, x); x = read(a0); } }\nend\n" % (k, ins, outs)
-    text += b"".join(b"connect f%02d.o%d f%02d.i%d\n" % (k, p, (k + 1) % 63, p) for k in range(63) for p in range(4))
+    text += b"".join(b"connect f%02d.o%d f%02d.i%d\n" % (k, p, (k + 1) % 63, p) for k in range(63) for p in range(ports))
     return text + b"pages 6\nbuild\n" + b"run\n" * 64
 
 
@@ -79,10 +77,10 @@ def feeds(clear):
 
 
 PAIRS = [
-    ("a line of 16 MB, comments", one_line, lambda n: padded(COPY, n)),
-    ("open brackets, comments", lambda: operators(b"("), lambda n: padded(comments(), n)),
-    ("open blocks, comments", lambda: operators(b"{"), lambda n: padded(comments(), n)),
-    ("channels and 64 runs, comments", channels, lambda n: padded(COPY, n)),
+    ("a line of 16 MB, feeds", one_line, lambda n: padded(feeds(False), n)),
+    ("open brackets, replaced", lambda: operators(b"("), replaced),
+    ("open blocks, replaced", lambda: operators(b"{"), replaced),
+    ("252 channels, 63; 64 runs", lambda: channels(4), lambda n: padded(channels(1), n)),
     ("names alike, apart", alike, lambda n: padded(apart(), n)),
     ("fed again, fed too much", lambda: feeds(True), lambda n: padded(feeds(False), n)),
 ]
